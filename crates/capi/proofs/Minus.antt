@@ -1,0 +1,48 @@
+-- A small number negated, and a number as it is, at 64 bits. Assumes nothing.
+use mathlib.Core.Path.{_≡_, sym, ap, _∙_, subst}
+use Prim.Native.Nat.{ℕ, zero, suc, _<_}
+use native.Mathlib.Omega.{arith}
+use lib.IntN.{ℤ, pos, _-ℤ_, +ℤ-idl}
+use mir.Syntax.{w64}
+use mir.Val.{SFits, toZ, ofZ}
+use mir.Facts.{toZ-pos, toZ-ofZ}
+use Rattle.signal.specs.declared.settings.Refusal.{Refusal}
+use Rattle.signal.specs.declared.settings.Refusal.the-variants.{Width, Mcs, Format, Length, Seed, Source, Place, Room, Point, Code, Frame, Closed, SigCrc, SigForm}
+use Rattle.signal.specs.Settings.{numberOf}
+use Rattle.capi.specs.Results.{minus}
+
+minus-is : (n : ℕ) → n < 16 → pos 0 -ℤ toZ w64 n ≡ minus n
+minus-is n h = ap (λ (z : ℤ). pos 0 -ℤ z) (toZ-pos w64 {n = n} (omega arith)) ∙ +ℤ-idl (minus n)
+
+small : (n : ℕ) → n < 16 → SFits w64 (minus n)
+small zero h = record { sfits = omega arith }
+small (suc k) h = record { sfits = omega arith }
+
+pub minus-fits : (n : ℕ) → n < 16 → SFits w64 (pos 0 -ℤ toZ w64 n)
+minus-fits n h = subst (SFits w64) (sym (minus-is n h)) (small n h)
+
+pub minus-back : (n : ℕ) → n < 16 → toZ w64 (ofZ w64 (pos 0 -ℤ toZ w64 n)) ≡ minus n
+minus-back n h = toZ-ofZ (minus-fits n h) ∙ minus-is n h
+
+pub pos-fits : (n : ℕ) → n < 268435456 → SFits w64 (pos n)
+pos-fits n h = record { sfits = omega arith }
+
+pub pos-is : (n : ℕ) → n < 268435456 → toZ w64 n ≡ pos n
+pos-is n h = toZ-pos w64 {n = n} (omega arith)
+
+-- every refusal's number is small
+pub number-small : (r : Refusal) → numberOf r < 16
+number-small Width = omega arith
+number-small Mcs = omega arith
+number-small Format = omega arith
+number-small Length = omega arith
+number-small Seed = omega arith
+number-small Source = omega arith
+number-small Place = omega arith
+number-small Room = omega arith
+number-small Point = omega arith
+number-small Code = omega arith
+number-small Frame = omega arith
+number-small Closed = omega arith
+number-small SigCrc = omega arith
+number-small SigForm = omega arith

@@ -1,0 +1,35 @@
+-- Tests and the facts that they stand for, both ways. Assumes nothing.
+use mathlib.Core.Path.{_≡_, refl, sym}
+use mathlib.Core.Bool.{Bool, true, false, not, _||_}
+use mathlib.Core.Logic.{_↔_, _⊎_, inl, inr, ⊎-elim}
+use Prim.Native.Nat.{ℕ, _<_}
+use lib.Dec.{eqb, ltb}
+use borrow.Author.Tests.{ltb-true, lt-ltb, eqb-true, eq-eqb, eqb-false, ne-eqb}
+use Rattle.laws.proofs.Refusing.{true-not-false}
+
+pub less : (a b : ℕ) → (ltb a b ≡ true) ↔ (a < b)
+less a b = (ltb-true a b, lt-ltb a b)
+
+pub same : (a b : ℕ) → (eqb a b ≡ true) ↔ (a ≡ b)
+same a b = (eqb-true a b, eq-eqb a b)
+
+pub other : (a b : ℕ) → (not (eqb a b) ≡ true) ↔ (a ≡ b → ⊥)
+other a b = (λ e. eqb-false a b (flip (eqb a b) e), λ n. back (ne-eqb a b n))
+  where
+    flip : (t : Bool) → not t ≡ true → t ≡ false
+    flip true e = sym e
+    flip false e = refl
+
+    back : {t : Bool} → t ≡ false → not t ≡ true
+    back e = simp e
+
+-- one of two
+pub either : {P Q : Type 0} (a b : Bool) → (a ≡ true) ↔ P → (b ≡ true) ↔ Q → ((a || b) ≡ true) ↔ (P ⊎ Q)
+either true b p q = (λ e. inl (p .0 refl), λ s. refl)
+either false b p q = (λ e. inr (q .0 e), ⊎-elim (λ x. absurd (true-not-false (sym (p .1 x)))) (λ y. q .1 y))
+
+-- none of two
+pub neither : {P Q : Type 0} (a b : Bool) → (a ≡ true) ↔ P → (b ≡ true) ↔ Q → (not (a || b) ≡ true) ↔ ((P → ⊥) × (Q → ⊥))
+neither true b p q = (λ e. absurd (true-not-false (sym e)), λ n. absurd (n .0 (p .0 refl)))
+neither false true p q = (λ e. absurd (true-not-false (sym e)), λ n. absurd (n .1 (q .0 refl)))
+neither false false p q = (λ e. (λ x. true-not-false (sym (p .1 x)), λ y. true-not-false (sym (q .1 y))), λ n. refl)

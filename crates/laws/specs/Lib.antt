@@ -1,0 +1,5 @@
+pub mod Test
+pub mod Claim
+pub mod Filled
+pub mod Scattered
+pub mod Refusals

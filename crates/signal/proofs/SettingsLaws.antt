@@ -1,0 +1,141 @@
+-- Accepted settings are in range, and the numbers that follow from them. Assumes nothing.
+use mathlib.Core.Path.{_≡_, refl, sym, subst}
+use mathlib.Core.Bool.{Bool, true, false, cond, not, _||_}
+use Prim.Native.Nat.{ℕ, zero, suc, _+_, _-_, _*_, _/_, _%_, _≤_, _<_}
+use native.Mathlib.Nat.{div-add-mod', mod-lt, div-lt-iff-lt-mul, suc-mul, le-of-suc-le-suc}
+use native.Mathlib.Omega.{arith}
+use borrow.Author.Tests.{ltb-false, eqb-false, eqb-true}
+use lib.Dec.{T, eqb, ltb}
+use Rattle.laws.specs.Test.{among}
+use Rattle.laws.proofs.Refusing.{true-not-false}
+use Rattle.coding.specs.Plan.{widths, encoderCounts, streamsOf, planOf, Planned, Fits}
+use Rattle.coding.proofs.Plans.{fits}
+use Rattle.signal.specs.Settings.{badWidth, badMcs, badFormat, badLength, badSeed, settingsOf, checkOf, encodersOf, planFor, Right}
+use Rattle.signal.specs.Symbols.{bitsToSend, ceil, symbolsOf, countOf}
+use Rattle.signal.specs.declared.settings.RawSettings.{RawSettings}
+use Rattle.signal.specs.declared.settings.Refusal.{Refusal}
+use Rattle.signal.specs.declared.settings.Refusal.the-variants.{Width, Mcs, Format, Length, Seed}
+use Rattle.signal.specs.declared.settings.Settings.{Settings}
+use Rattle.signal.specs.declared.settings.Checked.{Checked}
+use Rattle.signal.specs.declared.settings.Checked.the-variants.{Accepted, Refused}
+use Rattle.signal.specs.declared.symbols.Count.the-variants.{Symbols}
+
+-- the answer where every test passes
+pub accepted-is : (a : RawSettings) → badWidth a ≡ false → badMcs a ≡ false → badFormat a ≡ false → badLength a ≡ false → badSeed a ≡ false
+    → Accepted (settingsOf a) ≡ checkOf a
+accepted-is a w m f l s = simp (w, m, f, l, s)
+
+above : (n : ℕ) → (n ≡ 0 → ⊥) → 0 < n
+above zero h = absurd (h refl)
+above (suc n) h = omega arith
+
+or-left : (a b : Bool) → (a || b) ≡ false → a ≡ false
+or-left true b e = e
+or-left false b e = refl
+
+or-right : (a b : Bool) → (a || b) ≡ false → b ≡ false
+or-right true b e = absurd (true-not-false e)
+or-right false b e = e
+
+in-widths : (a b : Bool) (w : ℕ) → eqb w 20 ≡ a → eqb w 40 ≡ b → not (a || b) ≡ false → T (among widths w)
+in-widths true b w p q e = subst (λ (v : ℕ). T (among widths v)) (sym (eqb-true w 20 p)) tt
+in-widths false true w p q e = subst (λ (v : ℕ). T (among widths v)) (sym (eqb-true w 40 q)) tt
+in-widths false false w p q e = absurd (true-not-false e)
+
+-- accepted settings are in range
+pub right : (a : RawSettings) (s : Settings) → checkOf a ≡ Accepted s → Right s
+right a s p = go (badWidth a) (badMcs a) (badFormat a) (badLength a) (badSeed a) refl refl refl refl refl p
+  where
+    no : (r : Refusal) → Refused r ≡ Accepted s → ⊥
+    no r e = let z : _≡_ {A = ℕ} 0 1 = cc in omega arith
+
+    go : (w m f l d : Bool) → badWidth a ≡ w → badMcs a ≡ m → badFormat a ≡ f → badLength a ≡ l → badSeed a ≡ d
+        → cond w (Refused Width) (cond m (Refused Mcs) (cond f (Refused Format) (cond l (Refused Length) (cond d (Refused Seed) (Accepted (settingsOf a)))))) ≡ Accepted s → Right s
+    go true m f l d ew em ef el ed q = absurd (no Width q)
+    go false true f l d ew em ef el ed q = absurd (no Mcs q)
+    go false false true l d ew em ef el ed q = absurd (no Format q)
+    go false false false true d ew em ef el ed q = absurd (no Length q)
+    go false false false false true ew em ef el ed q = absurd (no Seed q)
+    go false false false false false ew em ef el ed q =
+        let is : settingsOf a ≡ s = cc in
+        subst Right is
+        (record {
+          width = in-widths (eqb (a .width) 20) (eqb (a .width) 40) (a .width) refl refl ew;
+          mcs = omega (arith, ltb-false 31 (a .mcs) em);
+          format = omega (arith, ltb-false 1 (a .format) ef);
+          length-some = above (a .length) (eqb-false (a .length) 0 (or-left (eqb (a .length) 0) (ltb 65535 (a .length)) el));
+          length-most = omega (arith, ltb-false 65535 (a .length) (or-right (eqb (a .length) 0) (ltb 65535 (a .length)) el));
+          seed-some = above (a .seed) (eqb-false (a .seed) 0 (or-left (eqb (a .seed) 0) (ltb 127 (a .seed)) ed));
+          seed-most = omega (arith, ltb-false 127 (a .seed) (or-right (eqb (a .seed) 0) (ltb 127 (a .seed)) ed));
+        })
+
+-- ---- the plan of accepted settings
+
+pub encoders-in : (m : ℕ) → T (among encoderCounts (encodersOf m))
+encoders-in m = go (ltb (streamsOf m) 3)
+  where
+    go : (b : Bool) → T (among encoderCounts (cond b 1 2))
+    go true = tt
+    go false = tt
+
+pub encoders-few : (m : ℕ) → encodersOf m ≤ 2
+encoders-few m = go (ltb (streamsOf m) 3)
+  where
+    go : (b : Bool) → cond b 1 2 ≤ 2
+    go true = omega arith
+    go false = omega arith
+
+pub planned : (s : Settings) → Right s → Planned (s .width) (s .mcs) (encodersOf (s .mcs))
+planned s r = record { width = r .width; mcs = r .mcs; encoders = encoders-in (s .mcs) }
+
+pub plan-fits : (s : Settings) → Right s → Fits (planFor s)
+unfolding planFor
+plan-fits s r = fits (s .width) (s .mcs) (encodersOf (s .mcs)) (planned s r)
+
+pub planned-encoders : (s : Settings) → planFor s .encoders ≡ encodersOf (s .mcs)
+unfolding planFor planOf
+planned-encoders s = refl
+
+-- ---- the symbol count
+
+-- `ceil x d` is not below x / d, and no smaller whole number is
+pub ceil-not-below : (x d : ℕ) → 0 < d → x ≤ ceil x d * d
+ceil-not-below x d h =
+    let m = (x + (d - 1)) % d in
+    let e : (x + (d - 1)) / d * d + m ≡ x + (d - 1) = div-add-mod' (x + (d - 1)) d in
+    let l : m < d = mod-lt (x + (d - 1)) h in
+    omega arith
+
+pub ceil-least : (x d n : ℕ) → 0 < d → x ≤ n * d → ceil x d ≤ n
+ceil-least x d n h p = le-of-suc-le-suc (div-lt-iff-lt-mul h .1 (rw suc-mul (omega arith)))
+
+-- the count of accepted settings fits them, and no smaller one does
+pub symbols-least : (s : Settings) → Right s
+    → (bitsToSend s ≤ symbolsOf s * planFor s .dbps) × ((n : ℕ) → bitsToSend s ≤ n * planFor s .dbps → symbolsOf s ≤ n)
+unfolding symbolsOf
+symbols-least s r =
+    let some : 0 < planFor s .dbps = omega (arith, plan-fits s r .dbps-some) in
+    (ceil-not-below (bitsToSend s) (planFor s .dbps) some, λ n h. ceil-least (bitsToSend s) (planFor s .dbps) n some h)
+
+-- the count is above 0, and small
+pub symbols-some : (s : Settings) → Right s → 0 < symbolsOf s
+symbols-some s r = go (symbolsOf s) (symbols-least s r .0)
+  where
+    go : (n : ℕ) → bitsToSend s ≤ n * planFor s .dbps → 0 < n
+    go zero h = omega (arith, h)
+    go (suc n) h = omega arith
+
+pub symbols-few : (s : Settings) → Right s → symbolsOf s ≤ 20166
+symbols-few s r =
+    symbols-least s r .1 20166 (go (planFor s .dbps) (s .length) (encodersOf (s .mcs)) (plan-fits s r .dbps-some) (r .length-most) (encoders-few (s .mcs)))
+  where
+    go : (d l e : ℕ) → 26 ≤ d → l < 65536 → e ≤ 2 → 16 + 8 * l + 6 * e ≤ 20166 * d
+    go d l e p h g = omega arith
+
+-- a count that the call gives is small
+pub count-few : (a : RawSettings) (n : ℕ) → countOf (checkOf a) ≡ Symbols n → n ≤ 20166
+count-few a n = go (checkOf a) refl
+  where
+    go : (k : Checked) → checkOf a ≡ k → countOf k ≡ Symbols n → n ≤ 20166
+    go (Accepted s) e q = let i : symbolsOf s ≡ n = cc in omega (arith, symbols-few s (right a s e))
+    go (Refused r) e q = let z : _≡_ {A = ℕ} 0 1 = cc in absurd (omega (arith, z))

@@ -1,0 +1,6 @@
+pub mod Settings
+pub mod Worked
+pub mod Symbols
+pub mod HtSig
+pub mod Words
+pub mod Statements

@@ -1,0 +1,49 @@
+-- What is proved of HT-SIG beside the contracts. The terms are in proofs/HtSigLaws.
+use mathlib.Core.Path.{_≡_}
+use mathlib.Core.Logic.{_↔_}
+use mathlib.Core.List.{List}
+use Prim.Native.Nat.{ℕ, _<_}
+use lib.ListN.{length, getD}
+use Rattle.signal.specs.declared.settings.RawSettings.{RawSettings}
+use Rattle.signal.specs.declared.settings.Settings.{Settings}
+use Rattle.signal.specs.declared.settings.Checked.the-variants.{Accepted}
+use Rattle.signal.specs.declared.ht_sig.SigFields.{SigFields}
+use Rattle.signal.specs.declared.ht_sig.SigRead.the-variants.{Fields}
+use Rattle.signal.specs.Settings.{checkOf, WidthRow, McsRow, FormatRow, LengthRow, SeedRow}
+use Rattle.signal.specs.HtSig.{fieldsOf, sigBytes, writtenOf, writtenNumber, readOf, readNumber, SourceRow, CrcRow, FormRow}
+
+-- each number of a list is a byte
+abbrev pub AreBytes : List ℕ → Type 0
+AreBytes l = (i : ℕ) → i < length l → getD l i 0 < 256
+
+-- the read gives fields exactly for the bytes that some accepted settings write, and they are those settings' fields
+abbrev pub ReadExactly : Type 0
+ReadExactly = (l : List ℕ) → AreBytes l
+    → (((g : SigFields) × (readOf l ≡ Fields g))
+    ↔ ((a : RawSettings) × ((s : Settings) × ((checkOf a ≡ Accepted s) × (l ≡ sigBytes (fieldsOf s))))))
+    × ((g : SigFields) (a : RawSettings) (s : Settings) → readOf l ≡ Fields g → checkOf a ≡ Accepted s → l ≡ sigBytes (fieldsOf s) → g ≡ fieldsOf s)
+
+-- a refusal of the read is given exactly when its row applies and none before it does
+abbrev pub ReadRefusals : Type 0
+ReadRefusals = (l : List ℕ)
+    → ((readNumber (readOf l) ≡ 6) ↔ (SourceRow l × Unit {0}))
+    × (((readNumber (readOf l) ≡ 13) ↔ (CrcRow l × ((SourceRow l → ⊥) × Unit {0})))
+    × (((readNumber (readOf l) ≡ 14) ↔ (FormRow l × ((SourceRow l → ⊥) × ((CrcRow l → ⊥) × Unit {0}))))
+    × ((readNumber (readOf l) ≡ 0) ↔ ((SourceRow l → ⊥) × ((CrcRow l → ⊥) × ((FormRow l → ⊥) × Unit {0}))))))
+
+-- "the lent slice for .. signal bytes .. is too short"
+abbrev pub RoomRow : ℕ → Type 0
+RoomRow room = room < 6
+
+-- a refusal of the write is given exactly when its row applies and none before it does: the settings' rows, then the room's
+abbrev pub WriteRefusals : Type 0
+WriteRefusals = (a : RawSettings) (room : ℕ)
+    → ((writtenNumber (writtenOf (checkOf a) room) ≡ 1) ↔ (WidthRow a × Unit {0}))
+    × (((writtenNumber (writtenOf (checkOf a) room) ≡ 2) ↔ (McsRow a × ((WidthRow a → ⊥) × Unit {0})))
+    × (((writtenNumber (writtenOf (checkOf a) room) ≡ 3) ↔ (FormatRow a × ((WidthRow a → ⊥) × ((McsRow a → ⊥) × Unit {0}))))
+    × (((writtenNumber (writtenOf (checkOf a) room) ≡ 4) ↔ (LengthRow a × ((WidthRow a → ⊥) × ((McsRow a → ⊥) × ((FormatRow a → ⊥) × Unit {0})))))
+    × (((writtenNumber (writtenOf (checkOf a) room) ≡ 5) ↔ (SeedRow a × ((WidthRow a → ⊥) × ((McsRow a → ⊥) × ((FormatRow a → ⊥) × ((LengthRow a → ⊥) × Unit {0}))))))
+    × (((writtenNumber (writtenOf (checkOf a) room) ≡ 8)
+    ↔ (RoomRow room × ((WidthRow a → ⊥) × ((McsRow a → ⊥) × ((FormatRow a → ⊥) × ((LengthRow a → ⊥) × ((SeedRow a → ⊥) × Unit {0})))))))
+    × ((writtenNumber (writtenOf (checkOf a) room) ≡ 0)
+    ↔ ((WidthRow a → ⊥) × ((McsRow a → ⊥) × ((FormatRow a → ⊥) × ((LengthRow a → ⊥) × ((SeedRow a → ⊥) × ((RoomRow room → ⊥) × Unit {0}))))))))))))

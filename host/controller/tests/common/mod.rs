@@ -1,0 +1,62 @@
+//! What the tests share: numbers drawn from a fixed seed, and settings for both programs.
+
+#![allow(dead_code)]
+
+use controller::RawSettings;
+
+/// xorshift64*: the same numbers on every run.
+pub struct Draw(u64);
+
+impl Draw {
+    pub fn new(seed: u64) -> Draw {
+        Draw(seed | 1)
+    }
+
+    pub fn next(&mut self) -> u64 {
+        self.0 ^= self.0 >> 12;
+        self.0 ^= self.0 << 25;
+        self.0 ^= self.0 >> 27;
+        self.0.wrapping_mul(0x2545_F491_4F6C_DD1D)
+    }
+
+    pub fn below(&mut self, n: u64) -> u64 {
+        (self.next() >> 11) % n
+    }
+
+    pub fn of<T: Copy>(&mut self, choices: &[T]) -> T {
+        choices[self.below(choices.len() as u64) as usize]
+    }
+}
+
+/// Good settings that a test changes in one place.
+pub const GOOD: RawSettings = RawSettings {
+    width: 20,
+    mcs: 0,
+    format: 0,
+    length: 1,
+    seed: 1,
+    smoothing: 1,
+    not_sounding: 1,
+    aggregation: 0,
+    short_guard: 0,
+};
+
+/// The same settings for the second program.
+pub fn second_settings(s: RawSettings) -> second::Settings {
+    second::Settings {
+        width: s.width,
+        mcs: s.mcs,
+        format: s.format,
+        length: s.length,
+        seed: s.seed,
+        smoothing: s.smoothing != 0,
+        not_sounding: s.not_sounding != 0,
+        aggregation: s.aggregation != 0,
+        short_guard: s.short_guard != 0,
+    }
+}
+
+/// A refusal's number, or the value.
+pub fn numbered<T>(result: Result<T, controller::Refusal>) -> Result<T, u32> {
+    result.map_err(|r| r.number())
+}
