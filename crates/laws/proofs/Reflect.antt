@@ -1,6 +1,6 @@
 -- Tests and the facts that they stand for, both ways. Assumes nothing.
 use mathlib.Core.Path.{_≡_, refl, sym}
-use mathlib.Core.Bool.{Bool, true, false, not, _||_}
+use mathlib.Core.Bool.{Bool, true, false, not, _&&_, _||_}
 use mathlib.Core.Logic.{_↔_, _⊎_, inl, inr, ⊎-elim}
 use Prim.Native.Nat.{ℕ, _<_}
 use lib.Dec.{eqb, ltb}
@@ -33,3 +33,12 @@ pub neither : {P Q : Type 0} (a b : Bool) → (a ≡ true) ↔ P → (b ≡ true
 neither true b p q = (λ e. absurd (true-not-false (sym e)), λ n. absurd (n .0 (p .0 refl)))
 neither false true p q = (λ e. absurd (true-not-false (sym e)), λ n. absurd (n .1 (q .0 refl)))
 neither false false p q = (λ e. (λ x. true-not-false (sym (p .1 x)), λ y. true-not-false (sym (q .1 y))), λ n. refl)
+
+-- both of two, and none of two, as equations of tests
+pub and-true : (a b : Bool) → (a && b) ≡ true → (a ≡ true) × (b ≡ true)
+and-true true b e = (refl, e)
+and-true false b e = absurd (true-not-false (sym e))
+
+pub or-false : (a b : Bool) → (a || b) ≡ false → (a ≡ false) × (b ≡ false)
+or-false true b e = absurd (true-not-false e)
+or-false false b e = (refl, e)

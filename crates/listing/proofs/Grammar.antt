@@ -10,7 +10,7 @@ use borrow.Author.Tests.{ltb-true, leb-true, eqb-true, lt-ltb, le-leb, eq-eqb}
 use lib.Dec.{ltb, leb, eqb}
 use lib.ListN.{length, getD, take, drop, length-append, length-drop, take-append-drop}
 use lib.Seq.{drop-cons, drop-drop, take-all, take-at, drop-append-add, getD-drop, getD-at, length-take-le}
-use Rattle.laws.proofs.Refusing.{true-not-false}
+use Rattle.laws.proofs.Reflect.{and-true}
 use Rattle.listing.specs.declared.parsing.Parsed.{Parsed}
 use Rattle.listing.specs.declared.parsing.Parsed.the-variants.{Numbers, Malformed}
 use Rattle.listing.specs.Lines.{stretch}
@@ -18,10 +18,6 @@ use Rattle.listing.specs.Parsing.{isDigit, oneToFive, decimalValue, sepa
 use Rattle.listing.proofs.Decimals.{tens-most, value-below}
 
 -- ---- the tests
-
-and-true : (a b : Bool) → (a && b) ≡ true → (a ≡ true) × (b ≡ true)
-and-true true b e = (refl, e)
-and-true false b e = absurd (true-not-false (sym e))
 
 true-and : {a b : Bool} → a ≡ true → b ≡ true → (a && b) ≡ true
 true-and e f = simp (e, f)

@@ -12,8 +12,8 @@ use lib.Dec.{T, ltb, eqb}
 use borrow.Author.Tests.{lt-ltb, le-ltb, ltb-false, eq-eqb, ne-eqb, eqb-true, eqb-false, not-false}
 use Rattle.laws.specs.Test.{among}
 use Rattle.laws.specs.Refusals.{Rule, firstOf}
-use Rattle.laws.proofs.Refusing.{given-exactly, accepted-exactly, true-not-false}
-use Rattle.laws.proofs.Reflect.{less, same, other, either}
+use Rattle.laws.proofs.Refusing.{given-exactly, accepted-exactly}
+use Rattle.laws.proofs.Reflect.{less, same, other, either, or-false}
 use Rattle.coding.specs.Plan.{widths}
 use Rattle.signal.specs.declared.settings.Refusal.{Refusal}
 use Rattle.signal.specs.declared.settings.Refusal.the-variants.{Width, Mcs, Format, Length, Seed, Source, Room, SigCrc, SigForm}
@@ -432,10 +432,6 @@ pub read-of-written : (s : Settings) → Right s → readOf (sigBytes (fieldsOf 
 read-of-written s r = read-back s r
 
 -- ---- the read gives fields for nothing else
-
-or-false : (a b : Bool) → (a || b) ≡ false → (a ≡ false) × (b ≡ false)
-or-false true b e = absurd (true-not-false e)
-or-false false b e = (refl, e)
 
 -- what the two tests of the read leave of a number
 record Passed (w : ℕ) : Type 0 where

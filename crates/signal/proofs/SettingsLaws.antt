@@ -8,6 +8,7 @@ use borrow.Author.Tests.{ltb-false, eqb-false, eqb-true}
 use lib.Dec.{T, eqb, ltb}
 use Rattle.laws.specs.Test.{among}
 use Rattle.laws.proofs.Refusing.{true-not-false}
+use Rattle.laws.proofs.Reflect.{or-false}
 use Rattle.coding.specs.Plan.{widths, encoderCounts, streamsOf, planOf, Planned, Fits}
 use Rattle.coding.proofs.Plans.{fits}
 use Rattle.signal.specs.Settings.{badWidth, badMcs, badFormat, badLength, badSeed, settingsOf, checkOf, encodersOf, planFor, Right}
@@ -28,14 +29,6 @@ accepted-is a w m f l s = simp (w, m, f, l, s)
 above : (n : ℕ) → (n ≡ 0 → ⊥) → 0 < n
 above zero h = absurd (h refl)
 above (suc n) h = omega arith
-
-or-left : (a b : Bool) → (a || b) ≡ false → a ≡ false
-or-left true b e = e
-or-left false b e = refl
-
-or-right : (a b : Bool) → (a || b) ≡ false → b ≡ false
-or-right true b e = absurd (true-not-false e)
-or-right false b e = e
 
 in-widths : (a b : Bool) (w : ℕ) → eqb w 20 ≡ a → eqb w 40 ≡ b → not (a || b) ≡ false → T (among widths w)
 in-widths true b w p q e = subst (λ (v : ℕ). T (among widths v)) (sym (eqb-true w 20 p)) tt
@@ -63,10 +56,10 @@ right a s p = go (badWidth a) (badMcs a) (badFormat a) (badLength a) (badSeed a)
           width = in-widths (eqb (a .width) 20) (eqb (a .width) 40) (a .width) refl refl ew;
           mcs = omega (arith, ltb-false 31 (a .mcs) em);
           format = omega (arith, ltb-false 1 (a .format) ef);
-          length-some = above (a .length) (eqb-false (a .length) 0 (or-left (eqb (a .length) 0) (ltb 65535 (a .length)) el));
-          length-most = omega (arith, ltb-false 65535 (a .length) (or-right (eqb (a .length) 0) (ltb 65535 (a .length)) el));
-          seed-some = above (a .seed) (eqb-false (a .seed) 0 (or-left (eqb (a .seed) 0) (ltb 127 (a .seed)) ed));
-          seed-most = omega (arith, ltb-false 127 (a .seed) (or-right (eqb (a .seed) 0) (ltb 127 (a .seed)) ed));
+          length-some = above (a .length) (eqb-false (a .length) 0 (or-false (eqb (a .length) 0) (ltb 65535 (a .length)) el .0));
+          length-most = omega (arith, ltb-false 65535 (a .length) (or-false (eqb (a .length) 0) (ltb 65535 (a .length)) el .1));
+          seed-some = above (a .seed) (eqb-false (a .seed) 0 (or-false (eqb (a .seed) 0) (ltb 127 (a .seed)) ed .0));
+          seed-most = omega (arith, ltb-false 127 (a .seed) (or-false (eqb (a .seed) 0) (ltb 127 (a .seed)) ed .1));
         })
 
 -- ---- the plan of accepted settings

@@ -2,7 +2,7 @@
 use mathlib.Core.Path.{_≡_}
 use mathlib.Core.Bool.{Bool, cond, not, _||_}
 use mathlib.Core.Logic.{_⊎_}
-use Prim.Native.Nat.{ℕ, _/_, _<_}
+use Prim.Native.Nat.{ℕ, _<_}
 use lib.Dec.{T, ltb, eqb}
 use Rattle.laws.specs.Test.{among}
 use Rattle.coding.specs.Plan.{widths, streamsOf, planOf}
