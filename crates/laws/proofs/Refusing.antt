@@ -2,12 +2,12 @@
 use mathlib.Core.Path.{_≡_, _∙_, refl, sym, ap, subst}
 use mathlib.Core.Bool.{Bool, true, false, cond, not}
 use mathlib.Core.Logic.{_↔_}
-use mathlib.Core.List.{List, [], _∷_, _++_}
+use mathlib.Core.List.{List, [], _∷_, _++_, append-nil, append-assoc}
 use Prim.Native.Nat.{ℕ}
 use native.Mathlib.Omega.{arith}
 use lib.Dec.{T, T-not, eqb, eqb-refl}
-use Rattle.laws.specs.Test.{both-left, both-right}
-use Rattle.laws.specs.Refusals.{Rule, firstOf, NoneApplies, fresh}
+use Rattle.laws.specs.Test.{both, both-left, both-right}
+use Rattle.laws.specs.Refusals.{Rule, firstOf, NoneApplies, GivenExactly, fresh, distinct}
 
 pub true-not-false : true ≡ false → ⊥
 true-not-false e = let z : _≡_ {A = ℕ} 0 1 = cc in omega arith
@@ -38,16 +38,15 @@ never n (r ∷ rs) z t e =
     (λ y. apart (r .number) n (both-left (not (eqb (r .number) n)) (fresh n rs) t) (sym (here r rs y) ∙ e))
     (λ f. never n rs z (both-right (not (eqb (r .number) n)) (fresh n rs) t) (sym (later r rs f) ∙ e))
 
--- the rules before one, that one, and the rules after it
-pub given-exactly : (before : List Rule) (r : Rule) (after : List Rule)
-    → T (not (eqb 0 (r .number))) → T (fresh (r .number) before) → T (fresh (r .number) after)
+-- one rule after those that were tested before it, and before those that come after it
+first-after : (before : List Rule) (r : Rule) (after : List Rule) → T (not (eqb 0 (r .number))) → T (fresh (r .number) before) → T (fresh (r .number) after)
     → (firstOf (before ++ (r ∷ after)) ≡ r .number) ↔ (r .Applies × NoneApplies before)
-given-exactly [] r after z t u = (
+first-after [] r after z t u = (
   λ e. by-test (r .test) (λ y. (r .right .0 y, tt)) (λ f. absurd (never (r .number) after z u (sym (later r after f) ∙ e))),
   λ p. here r after (r .right .1 (p .0)),
 )
-given-exactly (b ∷ bs) r after z t u =
-    let h = given-exactly bs r after z (both-right (not (eqb (b .number) (r .number))) (fresh (r .number) bs) t) u in (
+first-after (b ∷ bs) r after z t u =
+    let h = first-after bs r after z (both-right (not (eqb (b .number) (r .number))) (fresh (r .number) bs) t) u in (
       λ e. by-test (b .test)
           (λ y. absurd (apart (b .number) (r .number) (both-left (not (eqb (b .number) (r .number))) (fresh (r .number) bs) t) (sym (here b (bs ++ (r ∷ after)) y) ∙ e)))
           (λ f. let g = h .0 (sym (later b (bs ++ (r ∷ after)) f) ∙ e) in (g .0, (not-here b [] f, g .1))),
@@ -56,11 +55,11 @@ given-exactly (b ∷ bs) r after z t u =
           (λ f. later b (bs ++ (r ∷ after)) f ∙ h .1 (p .0, p .1 .1)),
     )
 
--- no refusal is given exactly when no rule applies
-pub accepted-exactly : (rs : List Rule) → T (fresh 0 rs) → (firstOf rs ≡ 0) ↔ NoneApplies rs
-accepted-exactly [] t = (λ e. tt, λ p. refl)
-accepted-exactly (r ∷ rs) t =
-    let h = accepted-exactly rs (both-right (not (eqb (r .number) 0)) (fresh 0 rs) t) in (
+-- no number exactly when no rule applies
+none-first : (rs : List Rule) → T (fresh 0 rs) → (firstOf rs ≡ 0) ↔ NoneApplies rs
+none-first [] t = (λ e. tt, λ p. refl)
+none-first (r ∷ rs) t =
+    let h = none-first rs (both-right (not (eqb (r .number) 0)) (fresh 0 rs) t) in (
       λ e. by-test (r .test)
           (λ y. absurd (apart (r .number) 0 (both-left (not (eqb (r .number) 0)) (fresh 0 rs) t) (sym (here r rs y) ∙ e)))
           (λ f. (not-here r rs f, h .0 (sym (later r rs f) ∙ e))),
@@ -68,3 +67,23 @@ accepted-exactly (r ∷ rs) t =
           (λ y. absurd (p .0 (r .right .0 y)))
           (λ f. later r rs f ∙ h .1 (p .1)),
     )
+
+as-given : {n f m : ℕ} {A : Type 0} → n ≡ f → (f ≡ m) ↔ A → (n ≡ m) ↔ A
+as-given by h = (λ e. h .0 (sym by ∙ e), λ p. by ∙ h .1 p)
+
+given-from : (n : ℕ) (before rs : List Rule) → T (distinct before rs) → n ≡ firstOf (before ++ rs) → GivenExactly n before rs
+given-from n before [] t e = as-given (e ∙ ap firstOf (append-nil before)) (none-first before t)
+given-from n before (r ∷ rs) t e =
+    let u = both-right (not (eqb 0 (r .number))) (both (fresh (r .number) before) (both (fresh (r .number) rs) (distinct (before ++ (r ∷ [])) rs))) t in
+    let v = both-right (fresh (r .number) before) (both (fresh (r .number) rs) (distinct (before ++ (r ∷ [])) rs)) u in (
+      as-given e
+          (first-after before r rs
+          (both-left (not (eqb 0 (r .number))) (both (fresh (r .number) before) (both (fresh (r .number) rs) (distinct (before ++ (r ∷ [])) rs))) t)
+          (both-left (fresh (r .number) before) (both (fresh (r .number) rs) (distinct (before ++ (r ∷ [])) rs)) u)
+          (both-left (fresh (r .number) rs) (distinct (before ++ (r ∷ [])) rs) v)),
+      given-from n (before ++ (r ∷ [])) rs (both-right (fresh (r .number) rs) (distinct (before ++ (r ∷ [])) rs) v) (e ∙ ap firstOf (sym (append-assoc before (r ∷ []) rs))),
+    )
+
+-- a call whose number is that of the first rule that applies gives each refusal exactly when its row applies and none tested before it does
+pub given-exactly : (n : ℕ) (rs : List Rule) → T (distinct [] rs) → n ≡ firstOf rs → GivenExactly n [] rs
+given-exactly n rs t e = given-from n [] rs t e

@@ -2,7 +2,7 @@
 use mathlib.Core.Path.{_≡_}
 use mathlib.Core.Bool.{Bool, true, cond, not}
 use mathlib.Core.Logic.{_↔_}
-use mathlib.Core.List.{List, [], _∷_}
+use mathlib.Core.List.{List, [], _∷_, _++_}
 use Prim.Native.Nat.{ℕ}
 use lib.Dec.{eqb}
 use Rattle.laws.specs.Test.{both}
@@ -24,7 +24,19 @@ abbrev pub NoneApplies : List Rule → Type 0
 NoneApplies [] = Unit {0}
 NoneApplies (r ∷ rs) = (r .Applies → ⊥) × NoneApplies rs
 
+-- of a call that answers with number n by rules, those of `before` tested already: each rule's number is given exactly when its row applies and
+-- none tested before it does, and 0 exactly when none applies at all
+abbrev pub GivenExactly : ℕ → List Rule → List Rule → Type 0
+GivenExactly n before [] = (n ≡ 0) ↔ NoneApplies before
+GivenExactly n before (r ∷ rs) = ((n ≡ r .number) ↔ (r .Applies × NoneApplies before)) × GivenExactly n (before ++ (r ∷ [])) rs
+
 -- no rule has this number
 abbrev pub fresh : ℕ → List Rule → Bool
 fresh n [] = true
 fresh n (r ∷ rs) = both (not (eqb (r .number) n)) (fresh n rs)
+
+-- the numbers of rules are above 0 and no two of them the same, those of `before` included
+abbrev pub distinct : List Rule → List Rule → Bool
+distinct before [] = fresh 0 before
+distinct before (r ∷ rs) =
+    both (not (eqb 0 (r .number))) (both (fresh (r .number) before) (both (fresh (r .number) rs) (distinct (before ++ (r ∷ [])) rs)))

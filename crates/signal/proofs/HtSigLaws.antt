@@ -12,11 +12,11 @@ use lib.Dec.{T, ltb, eqb}
 use borrow.Author.Tests.{lt-ltb, le-ltb, ltb-false, eq-eqb, ne-eqb, eqb-true, eqb-false, not-false}
 use Rattle.laws.specs.Test.{among}
 use Rattle.laws.specs.Refusals.{Rule, firstOf}
-use Rattle.laws.proofs.Refusing.{given-exactly, accepted-exactly}
+use Rattle.laws.proofs.Refusing.{given-exactly}
 use Rattle.laws.proofs.Reflect.{less, same, other, either, or-false}
 use Rattle.coding.specs.Plan.{widths}
 use Rattle.signal.specs.declared.settings.Refusal.{Refusal}
-use Rattle.signal.specs.declared.settings.Refusal.the-variants.{Width, Mcs, Format, Length, Seed, Source, Room, SigCrc, SigForm}
+use Rattle.signal.specs.declared.settings.Refusal.the-variants.{Source, Room, SigCrc, SigForm}
 use Rattle.signal.specs.declared.settings.RawSettings.{RawSettings}
 use Rattle.signal.specs.declared.settings.Settings.{Settings}
 use Rattle.signal.specs.declared.settings.Checked.{Checked}
@@ -25,12 +25,12 @@ use Rattle.signal.specs.declared.ht_sig.SigFields.{SigFields}
 use Rattle.signal.specs.declared.ht_sig.Written.the-variants.{Done, Refused as WriteRefused}
 use Rattle.signal.specs.declared.ht_sig.SigRead.{SigRead}
 use Rattle.signal.specs.declared.ht_sig.SigRead.the-variants.{Fields, Refused as ReadRefused}
-use Rattle.signal.specs.Settings.{checkOf, settingsOf, Right, badWidth, badMcs, badFormat, badLength, badSeed}
+use Rattle.signal.specs.Settings.{checkOf, settingsOf, Right}
 use Rattle.signal.specs.HtSig.{oneIf, low, value, packed, ones, shiftedOver, crcBits, headBits, sigBits, sigBytes, fieldsOf, writtenOf, writtenInto, writtenNumber, bitsIn, field, SourceRow, CrcRow, crcWrong, FormRow, formWrong, fieldsIn, readOf, readNumber}
 use Rattle.signal.specs.Words.{headWord, crcRun, crcField, sigWord, sixOf, wordIn, wordCrcWrong, wordFormWrong, fieldsInWord, SigFits}
 use Rattle.signal.specs.Statements.{AreBytes, ReadExactly, ReadRefusals, RoomRow, WriteRefusals}
 use Rattle.signal.proofs.SettingsLaws.{right, accepted-is}
-use Rattle.signal.proofs.Refusals.{widthRule, mcsRule, formatRule, lengthRule, seedRule, settingsRules}
+use Rattle.signal.proofs.Refusals.{settingsRules, after-settings}
 use Rattle.signal.proofs.Bits.{Two, two-low, two-append, value-append, value-low, same-bits, low-of, low-mod, field-of, drop-low, take-low, packed-low, six-bits, bits-in, six-joined, six-small, six-are-bytes, word-again}
 use Rattle.signal.proofs.Registers.{crc-value, two-sent, field-small}
 
@@ -258,54 +258,44 @@ one-le : (b : Bool) → oneIf b ≤ 1
 one-le true = omega arith
 one-le false = omega arith
 
-module _ (m l w s n a h f : ℕ) (mf : m < 32) (lf : l < 65536) (wf : w ≤ 1) (sf : s ≤ 1) (nf : n ≤ 1) (af : a ≤ 1) (hf : h ≤ 1) where
-  abbrev put : ℕ
-  put = m + 128 * w + 256 * l + 16777216 * (s + 2 * n + 4 + 8 * a + 128 * h) + 17179869184 * f
+-- the parts of a number, each at its place in HT-SIG
+record Parts (x m w l s n a h f : ℕ) : Type 0 where
+  mcs : x % 128 ≡ m
+  width : x / 128 % 2 ≡ w
+  length : x / 256 % 65536 ≡ l
+  smoothing : x / 16777216 % 2 ≡ s
+  sounding : x / 33554432 % 2 ≡ n
+  reserved : x / 67108864 % 2 ≡ 1
+  aggregation : x / 134217728 % 2 ≡ a
+  stbc : x / 268435456 % 4 ≡ 0
+  coding : x / 1073741824 % 2 ≡ 0
+  guard : x / 2147483648 % 2 ≡ h
+  extension : x / 4294967296 % 4 ≡ 0
+  crc : x / 17179869184 % 256 ≡ f
+  rest : x / 4398046511104 % 64 ≡ 0
+  head : x % 17179869184 ≡ m + 128 * w + 256 * l + 16777216 * (s + 2 * n + 4 + 8 * a + 128 * h)
+  small : x < 281474976710656
 
-  back-m : put % 128 ≡ m
-  back-m = omega arith
-
-  back-w : put / 128 % 2 ≡ w
-  back-w = omega arith
-
-  back-l : put / 256 % 65536 ≡ l
-  back-l = omega arith
-
-  back-s : put / 16777216 % 2 ≡ s
-  back-s = omega arith
-
-  back-n : put / 33554432 % 2 ≡ n
-  back-n = omega arith
-
-  back-a : put / 134217728 % 2 ≡ a
-  back-a = omega arith
-
-  back-h : put / 2147483648 % 2 ≡ h
-  back-h = omega arith
-
-  back-f : f < 256 → put / 17179869184 % 256 ≡ f
-  back-f t = omega arith
-
-  back-low : put % 17179869184 ≡ m + 128 * w + 256 * l + 16777216 * (s + 2 * n + 4 + 8 * a + 128 * h)
-  back-low = omega arith
-
-  back-reserved : put / 67108864 % 2 ≡ 1
-  back-reserved = omega arith
-
-  back-stbc : put / 268435456 % 4 ≡ 0
-  back-stbc = omega arith
-
-  back-coding : put / 1073741824 % 2 ≡ 0
-  back-coding = omega arith
-
-  back-extension : put / 4294967296 % 4 ≡ 0
-  back-extension = omega arith
-
-  back-tail : f < 256 → put / 4398046511104 % 64 ≡ 0
-  back-tail t = omega arith
-
-  back-small : f < 256 → put < 281474976710656
-  back-small t = omega arith
+-- a number put together of parts has these parts
+parts : (m w l s n a h f : ℕ) → m < 32 → w ≤ 1 → l < 65536 → s ≤ 1 → n ≤ 1 → a ≤ 1 → h ≤ 1 → f < 256
+    → Parts (m + 128 * w + 256 * l + 16777216 * (s + 2 * n + 4 + 8 * a + 128 * h) + 17179869184 * f) m w l s n a h f
+parts m w l s n a h f mf wf lf sf nf af hf ff = record {
+  mcs = omega arith;
+  width = omega arith;
+  length = omega arith;
+  smoothing = omega arith;
+  sounding = omega arith;
+  reserved = omega arith;
+  aggregation = omega arith;
+  stbc = omega arith;
+  coding = omega arith;
+  guard = omega arith;
+  extension = omega arith;
+  crc = omega arith;
+  rest = omega arith;
+  head = omega arith;
+  small = omega arith;
+}
 
 form-right : (w : ℕ) {m l : ℕ} → w % 128 ≡ m → m < 32 → w / 256 % 65536 ≡ l → 0 < l → w / 67108864 % 2 ≡ 1 → w / 268435456 % 4 ≡ 0 → w / 1073741824 % 2 ≡ 0 → w / 4294967296 % 4 ≡ 0
     → w / 4398046511104 % 64 ≡ 0 → wordFormWrong w ≡ false
@@ -332,98 +322,34 @@ module _ (s : Settings) (r : Right s) where
   sent-small : sent < 256
   sent-small = field-small (crcRun 34 255 (headWord meant))
 
-  word-small : sigWord meant < 281474976710656
+  got : Parts (sigWord meant) (s .mcs) (oneIf (eqb (s .width) 40)) (s .length) (oneIf (s .smoothing)) (oneIf (s .«not_sounding»)) (oneIf (s .aggregation))
+      (oneIf (s .«short_guard»)) sent
   unfolding sigWord headWord
-  word-small = back-small (s .mcs) (s .length) (oneIf (eqb (s .width) 40)) (oneIf (s .smoothing)) (oneIf (s .«not_sounding»)) (oneIf (s .aggregation)) (oneIf (s .«short_guard»)) sent
-      (r .mcs) (r .length-most) (one-le (eqb (s .width) 40)) (one-le (s .smoothing)) (one-le (s .«not_sounding»)) (one-le (s .aggregation)) (one-le (s .«short_guard»)) sent-small
+  got =
+      parts (s .mcs) (oneIf (eqb (s .width) 40)) (s .length) (oneIf (s .smoothing)) (oneIf (s .«not_sounding»)) (oneIf (s .aggregation)) (oneIf (s .«short_guard»)) sent
+      (r .mcs) (one-le (eqb (s .width) 40)) (r .length-most) (one-le (s .smoothing)) (one-le (s .«not_sounding»)) (one-le (s .aggregation)) (one-le (s .«short_guard»)) sent-small
 
-  got-m : sigWord meant % 128 ≡ s .mcs
-  unfolding sigWord headWord
-  got-m = back-m (s .mcs) (s .length) (oneIf (eqb (s .width) 40)) (oneIf (s .smoothing)) (oneIf (s .«not_sounding»)) (oneIf (s .aggregation)) (oneIf (s .«short_guard»)) sent
-      (r .mcs) (r .length-most) (one-le (eqb (s .width) 40)) (one-le (s .smoothing)) (one-le (s .«not_sounding»)) (one-le (s .aggregation)) (one-le (s .«short_guard»))
-
-  got-w : sigWord meant / 128 % 2 ≡ oneIf (eqb (s .width) 40)
-  unfolding sigWord headWord
-  got-w = back-w (s .mcs) (s .length) (oneIf (eqb (s .width) 40)) (oneIf (s .smoothing)) (oneIf (s .«not_sounding»)) (oneIf (s .aggregation)) (oneIf (s .«short_guard»)) sent
-      (r .mcs) (r .length-most) (one-le (eqb (s .width) 40)) (one-le (s .smoothing)) (one-le (s .«not_sounding»)) (one-le (s .aggregation)) (one-le (s .«short_guard»))
-
-  got-l : sigWord meant / 256 % 65536 ≡ s .length
-  unfolding sigWord headWord
-  got-l = back-l (s .mcs) (s .length) (oneIf (eqb (s .width) 40)) (oneIf (s .smoothing)) (oneIf (s .«not_sounding»)) (oneIf (s .aggregation)) (oneIf (s .«short_guard»)) sent
-      (r .mcs) (r .length-most) (one-le (eqb (s .width) 40)) (one-le (s .smoothing)) (one-le (s .«not_sounding»)) (one-le (s .aggregation)) (one-le (s .«short_guard»))
-
-  got-s : sigWord meant / 16777216 % 2 ≡ oneIf (s .smoothing)
-  unfolding sigWord headWord
-  got-s = back-s (s .mcs) (s .length) (oneIf (eqb (s .width) 40)) (oneIf (s .smoothing)) (oneIf (s .«not_sounding»)) (oneIf (s .aggregation)) (oneIf (s .«short_guard»)) sent
-      (r .mcs) (r .length-most) (one-le (eqb (s .width) 40)) (one-le (s .smoothing)) (one-le (s .«not_sounding»)) (one-le (s .aggregation)) (one-le (s .«short_guard»))
-
-  got-n : sigWord meant / 33554432 % 2 ≡ oneIf (s .«not_sounding»)
-  unfolding sigWord headWord
-  got-n = back-n (s .mcs) (s .length) (oneIf (eqb (s .width) 40)) (oneIf (s .smoothing)) (oneIf (s .«not_sounding»)) (oneIf (s .aggregation)) (oneIf (s .«short_guard»)) sent
-      (r .mcs) (r .length-most) (one-le (eqb (s .width) 40)) (one-le (s .smoothing)) (one-le (s .«not_sounding»)) (one-le (s .aggregation)) (one-le (s .«short_guard»))
-
-  got-a : sigWord meant / 134217728 % 2 ≡ oneIf (s .aggregation)
-  unfolding sigWord headWord
-  got-a = back-a (s .mcs) (s .length) (oneIf (eqb (s .width) 40)) (oneIf (s .smoothing)) (oneIf (s .«not_sounding»)) (oneIf (s .aggregation)) (oneIf (s .«short_guard»)) sent
-      (r .mcs) (r .length-most) (one-le (eqb (s .width) 40)) (one-le (s .smoothing)) (one-le (s .«not_sounding»)) (one-le (s .aggregation)) (one-le (s .«short_guard»))
-
-  got-h : sigWord meant / 2147483648 % 2 ≡ oneIf (s .«short_guard»)
-  unfolding sigWord headWord
-  got-h = back-h (s .mcs) (s .length) (oneIf (eqb (s .width) 40)) (oneIf (s .smoothing)) (oneIf (s .«not_sounding»)) (oneIf (s .aggregation)) (oneIf (s .«short_guard»)) sent
-      (r .mcs) (r .length-most) (one-le (eqb (s .width) 40)) (one-le (s .smoothing)) (one-le (s .«not_sounding»)) (one-le (s .aggregation)) (one-le (s .«short_guard»))
-
-  got-f : sigWord meant / 17179869184 % 256 ≡ sent
-  unfolding sigWord headWord
-  got-f = back-f (s .mcs) (s .length) (oneIf (eqb (s .width) 40)) (oneIf (s .smoothing)) (oneIf (s .«not_sounding»)) (oneIf (s .aggregation)) (oneIf (s .«short_guard»)) sent
-      (r .mcs) (r .length-most) (one-le (eqb (s .width) 40)) (one-le (s .smoothing)) (one-le (s .«not_sounding»)) (one-le (s .aggregation)) (one-le (s .«short_guard»)) sent-small
-
-  got-low : sigWord meant % 17179869184 ≡ headWord meant
-  unfolding sigWord headWord
-  got-low = back-low (s .mcs) (s .length) (oneIf (eqb (s .width) 40)) (oneIf (s .smoothing)) (oneIf (s .«not_sounding»)) (oneIf (s .aggregation)) (oneIf (s .«short_guard»)) sent
-      (r .mcs) (r .length-most) (one-le (eqb (s .width) 40)) (one-le (s .smoothing)) (one-le (s .«not_sounding»)) (one-le (s .aggregation)) (one-le (s .«short_guard»))
-
-  got-reserved : sigWord meant / 67108864 % 2 ≡ 1
-  unfolding sigWord headWord
-  got-reserved = back-reserved (s .mcs) (s .length) (oneIf (eqb (s .width) 40)) (oneIf (s .smoothing)) (oneIf (s .«not_sounding»)) (oneIf (s .aggregation)) (oneIf (s .«short_guard»)) sent
-      (r .mcs) (r .length-most) (one-le (eqb (s .width) 40)) (one-le (s .smoothing)) (one-le (s .«not_sounding»)) (one-le (s .aggregation)) (one-le (s .«short_guard»))
-
-  got-stbc : sigWord meant / 268435456 % 4 ≡ 0
-  unfolding sigWord headWord
-  got-stbc = back-stbc (s .mcs) (s .length) (oneIf (eqb (s .width) 40)) (oneIf (s .smoothing)) (oneIf (s .«not_sounding»)) (oneIf (s .aggregation)) (oneIf (s .«short_guard»)) sent
-      (r .mcs) (r .length-most) (one-le (eqb (s .width) 40)) (one-le (s .smoothing)) (one-le (s .«not_sounding»)) (one-le (s .aggregation)) (one-le (s .«short_guard»))
-
-  got-coding : sigWord meant / 1073741824 % 2 ≡ 0
-  unfolding sigWord headWord
-  got-coding = back-coding (s .mcs) (s .length) (oneIf (eqb (s .width) 40)) (oneIf (s .smoothing)) (oneIf (s .«not_sounding»)) (oneIf (s .aggregation)) (oneIf (s .«short_guard»)) sent
-      (r .mcs) (r .length-most) (one-le (eqb (s .width) 40)) (one-le (s .smoothing)) (one-le (s .«not_sounding»)) (one-le (s .aggregation)) (one-le (s .«short_guard»))
-
-  got-extension : sigWord meant / 4294967296 % 4 ≡ 0
-  unfolding sigWord headWord
-  got-extension = back-extension (s .mcs) (s .length) (oneIf (eqb (s .width) 40)) (oneIf (s .smoothing)) (oneIf (s .«not_sounding»)) (oneIf (s .aggregation)) (oneIf (s .«short_guard»)) sent
-      (r .mcs) (r .length-most) (one-le (eqb (s .width) 40)) (one-le (s .smoothing)) (one-le (s .«not_sounding»)) (one-le (s .aggregation)) (one-le (s .«short_guard»))
-
-  got-tail : sigWord meant / 4398046511104 % 64 ≡ 0
-  unfolding sigWord headWord
-  got-tail = back-tail (s .mcs) (s .length) (oneIf (eqb (s .width) 40)) (oneIf (s .smoothing)) (oneIf (s .«not_sounding»)) (oneIf (s .aggregation)) (oneIf (s .«short_guard»)) sent
-      (r .mcs) (r .length-most) (one-le (eqb (s .width) 40)) (one-le (s .smoothing)) (one-le (s .«not_sounding»)) (one-le (s .aggregation)) (one-le (s .«short_guard»)) sent-small
+  got-head : sigWord meant % 17179869184 ≡ headWord meant
+  unfolding headWord
+  got-head = got .head
 
   crc-back : wordCrcWrong (sigWord meant) ≡ false
   unfolding wordCrcWrong
-  crc-back = ap not (eq-eqb _ _ (got-f ∙ ap (λ (x : ℕ). crcField (crcRun 34 255 x)) (sym got-low)))
+  crc-back = ap not (eq-eqb _ _ (got .crc ∙ ap (λ (x : ℕ). crcField (crcRun 34 255 x)) (sym got-head)))
 
   form-back : wordFormWrong (sigWord meant) ≡ false
-  form-back = form-right (sigWord meant) got-m (r .mcs) got-l (r .length-some) got-reserved got-stbc got-coding got-extension got-tail
+  form-back = form-right (sigWord meant) (got .mcs) (r .mcs) (got .length) (r .length-some) (got .reserved) (got .stbc) (got .coding) (got .extension) (got .rest)
 
   fields-back : fieldsInWord (sigWord meant) ≡ meant
   unfolding fieldsInWord
   fields-back =
-      same-fields (width-back _ (s .width) (r .width) got-w) got-m got-l (bool-back (s .smoothing) _ got-s) (bool-back (s .«not_sounding») _ got-n)
-      (bool-back (s .aggregation) _ got-a) (bool-back (s .«short_guard») _ got-h)
+      same-fields (width-back _ (s .width) (r .width) (got .width)) (got .mcs) (got .length) (bool-back (s .smoothing) _ (got .smoothing)) (bool-back (s .«not_sounding») _ (got .sounding))
+      (bool-back (s .aggregation) _ (got .aggregation)) (bool-back (s .«short_guard») _ (got .guard))
 
   read-back : readOf (sigBytes meant) ≡ Fields meant
   read-back =
       let w = sigWord meant in
-      let e : wordIn (sixOf w) ≡ w = word-again w word-small in
+      let e : wordIn (sixOf w) ≡ w = word-again w (got .small) in
       ap readOf (bytes-are meant (sig-fits s r))
       ∙ sym (read-by (sixOf w) w false false meant refl (six-are-bytes w) (sym e) crc-back form-back (sym fields-back))
 
@@ -646,10 +572,7 @@ module _ (l : List ℕ) (h : length l ≡ 6) where
       go false false true = refl
       go false false false = refl
 
-as-given : {n f m : ℕ} {A : Type 0} → n ≡ f → (f ≡ m) ↔ A → (n ≡ m) ↔ A
-as-given by p = (λ e. p .0 (sym by ∙ e), λ x. by ∙ p .1 x)
-
--- a refusal of the read is given exactly when its row applies and none before it does
+-- the signal read gives each refusal exactly when its row applies and none before it does
 pub read-refusals : ReadRefusals
 read-refusals l = go (eqb (length l) 6) refl
   where
@@ -660,16 +583,7 @@ read-refusals l = go (eqb (length l) 6) refl
         × ((readNumber (readOf l) ≡ 0) ↔ ((SourceRow l → ⊥) × ((CrcRow l → ⊥) × ((FormRow l → ⊥) × Unit {0}))))))
     go true p =
         let h = eqb-true (length l) 6 p in
-        let by = read-number l h in (
-          as-given by (given-exactly [] (sourceRule l h) (crcRule l h ∷ formRule l h ∷ []) tt tt tt),
-          (
-            as-given by (given-exactly (sourceRule l h ∷ []) (crcRule l h) (formRule l h ∷ []) tt tt tt),
-            (
-              as-given by (given-exactly (sourceRule l h ∷ crcRule l h ∷ []) (formRule l h) [] tt tt tt),
-              as-given by (accepted-exactly (sourceRule l h ∷ crcRule l h ∷ formRule l h ∷ []) tt),
-            ),
-          ),
-        )
+        given-exactly (readNumber (readOf l)) (sourceRule l h ∷ crcRule l h ∷ formRule l h ∷ []) tt (read-number l h)
     go false p =
         let n = eqb-false (length l) 6 p in
         let r : readNumber (readOf l) ≡ 6 = ap readNumber (read-short l n) in (
@@ -715,49 +629,15 @@ rest-stays (Refused r) l = (refl, refl)
 
 -- ---- the refusals of the write
 
-module _ (a : RawSettings) (room : ℕ) where
-  abbrev roomRule : Rule
-  roomRule = record { number = 8; Applies = RoomRow room; test = ltb room 6; right = less room 6 }
+abbrev roomRule : ℕ → Rule
+roomRule room = record { number = 8; Applies = RoomRow room; test = ltb room 6; right = less room 6 }
 
-  written-number : writtenNumber (writtenOf (checkOf a) room) ≡ firstOf (settingsRules a ++ (roomRule ∷ []))
-  written-number = go (badWidth a) (badMcs a) (badFormat a) (badLength a) (badSeed a)
-    where
-      last : (t : Bool) → writtenNumber (cond t (WriteRefused Room) Done) ≡ cond t 8 0
-      last true = refl
-      last false = refl
-
-      go : (w m f l d : Bool)
-          → writtenNumber (writtenOf (cond w (Refused Width) (cond m (Refused Mcs) (cond f (Refused Format) (cond l (Refused Length) (cond d (Refused Seed) (Accepted (settingsOf a))))))) room)
-          ≡ cond w 1 (cond m 2 (cond f 3 (cond l 4 (cond d 5 (cond (ltb room 6) 8 0)))))
-      go true m f l d = refl
-      go false true f l d = refl
-      go false false true l d = refl
-      go false false false true d = refl
-      go false false false false true = refl
-      go false false false false false = last (ltb room 6)
-
--- a refusal of the write is given exactly when its row applies and none before it does
+-- the signal write gives each refusal exactly when its row applies and none before it does
 pub write-refusals : WriteRefusals
 write-refusals a room =
-    let by = written-number a room in
-    let w = widthRule a in
-    let m = mcsRule a in
-    let f = formatRule a in
-    let l = lengthRule a in
-    let d = seedRule a in
-    let r = roomRule a room in (
-      as-given by (given-exactly [] w (m ∷ f ∷ l ∷ d ∷ r ∷ []) tt tt tt),
-      (
-        as-given by (given-exactly (w ∷ []) m (f ∷ l ∷ d ∷ r ∷ []) tt tt tt),
-        (
-          as-given by (given-exactly (w ∷ m ∷ []) f (l ∷ d ∷ r ∷ []) tt tt tt),
-          (
-            as-given by (given-exactly (w ∷ m ∷ f ∷ []) l (d ∷ r ∷ []) tt tt tt),
-            (
-              as-given by (given-exactly (w ∷ m ∷ f ∷ l ∷ []) d (r ∷ []) tt tt tt),
-              (as-given by (given-exactly (settingsRules a) r [] tt tt tt), as-given by (accepted-exactly (settingsRules a ++ (r ∷ [])) tt)),
-            ),
-          ),
-        ),
-      ),
-    )
+    given-exactly (writtenNumber (writtenOf (checkOf a) room)) (settingsRules a ++ (roomRule room ∷ [])) tt
+    (after-settings a (λ (c : Checked). writtenNumber (writtenOf c room)) (roomRule room ∷ []) (λ r. refl) (go (ltb room 6)))
+  where
+    go : (t : Bool) → writtenNumber (cond t (WriteRefused Room) Done) ≡ cond t 8 0
+    go true = refl
+    go false = refl

@@ -1,4 +1,4 @@
--- What is proved of HT-SIG beside the contracts. The terms are in proofs/HtSigLaws.
+-- What is proved beside the contracts. The terms are in proofs/Refusals and proofs/HtSigLaws.
 use mathlib.Core.Path.{_≡_}
 use mathlib.Core.Logic.{_↔_}
 use mathlib.Core.List.{List}
@@ -10,6 +10,7 @@ use Rattle.signal.specs.declared.settings.Checked.the-variants.{Accepted
 use Rattle.signal.specs.declared.ht_sig.SigFields.{SigFields}
 use Rattle.signal.specs.declared.ht_sig.SigRead.the-variants.{Fields}
 use Rattle.signal.specs.Settings.{checkOf, WidthRow, McsRow, FormatRow, LengthRow, SeedRow}
+use Rattle.signal.specs.Symbols.{countOf, countNumber}
 use Rattle.signal.specs.HtSig.{fieldsOf, sigBytes, writtenOf, writtenNumber, readOf, readNumber, SourceRow, CrcRow, FormRow}
 
 -- each number of a list is a byte
@@ -23,27 +24,41 @@ ReadExactly = (l : List ℕ) → AreBytes l
     ↔ ((a : RawSettings) × ((s : Settings) × ((checkOf a ≡ Accepted s) × (l ≡ sigBytes (fieldsOf s))))))
     × ((g : SigFields) (a : RawSettings) (s : Settings) → readOf l ≡ Fields g → checkOf a ≡ Accepted s → l ≡ sigBytes (fieldsOf s) → g ≡ fieldsOf s)
 
--- a refusal of the read is given exactly when its row applies and none before it does
-abbrev pub ReadRefusals : Type 0
-ReadRefusals = (l : List ℕ)
-    → ((readNumber (readOf l) ≡ 6) ↔ (SourceRow l × Unit {0}))
-    × (((readNumber (readOf l) ≡ 13) ↔ (CrcRow l × ((SourceRow l → ⊥) × Unit {0})))
-    × (((readNumber (readOf l) ≡ 14) ↔ (FormRow l × ((SourceRow l → ⊥) × ((CrcRow l → ⊥) × Unit {0}))))
-    × ((readNumber (readOf l) ≡ 0) ↔ ((SourceRow l → ⊥) × ((CrcRow l → ⊥) × ((FormRow l → ⊥) × Unit {0}))))))
+-- ---- refusals: "given exactly when" its row applies and none tested before it does; 0 where none applies
+
+-- of a number that a call gives by the settings alone
+abbrev pub SettingsRefusals : RawSettings → ℕ → Type 0
+SettingsRefusals a n =
+    ((n ≡ 1) ↔ (WidthRow a × Unit {0}))
+    × (((n ≡ 2) ↔ (McsRow a × ((WidthRow a → ⊥) × Unit {0})))
+    × (((n ≡ 3) ↔ (FormatRow a × ((WidthRow a → ⊥) × ((McsRow a → ⊥) × Unit {0}))))
+    × (((n ≡ 4) ↔ (LengthRow a × ((WidthRow a → ⊥) × ((McsRow a → ⊥) × ((FormatRow a → ⊥) × Unit {0})))))
+    × (((n ≡ 5) ↔ (SeedRow a × ((WidthRow a → ⊥) × ((McsRow a → ⊥) × ((FormatRow a → ⊥) × ((LengthRow a → ⊥) × Unit {0}))))))
+    × ((n ≡ 0) ↔ ((WidthRow a → ⊥) × ((McsRow a → ⊥) × ((FormatRow a → ⊥) × ((LengthRow a → ⊥) × ((SeedRow a → ⊥) × Unit {0}))))))))))
+
+-- the symbol count: 1 to 5
+abbrev pub CountRefusals : Type 0
+CountRefusals = (a : RawSettings) → SettingsRefusals a (countNumber (countOf (checkOf a)))
 
 -- "the lent slice for .. signal bytes .. is too short"
 abbrev pub RoomRow : ℕ → Type 0
 RoomRow room = room < 6
 
--- a refusal of the write is given exactly when its row applies and none before it does: the settings' rows, then the room's
+-- the signal write: 1 to 5, then 8
 abbrev pub WriteRefusals : Type 0
-WriteRefusals = (a : RawSettings) (room : ℕ)
-    → ((writtenNumber (writtenOf (checkOf a) room) ≡ 1) ↔ (WidthRow a × Unit {0}))
-    × (((writtenNumber (writtenOf (checkOf a) room) ≡ 2) ↔ (McsRow a × ((WidthRow a → ⊥) × Unit {0})))
-    × (((writtenNumber (writtenOf (checkOf a) room) ≡ 3) ↔ (FormatRow a × ((WidthRow a → ⊥) × ((McsRow a → ⊥) × Unit {0}))))
-    × (((writtenNumber (writtenOf (checkOf a) room) ≡ 4) ↔ (LengthRow a × ((WidthRow a → ⊥) × ((McsRow a → ⊥) × ((FormatRow a → ⊥) × Unit {0})))))
-    × (((writtenNumber (writtenOf (checkOf a) room) ≡ 5) ↔ (SeedRow a × ((WidthRow a → ⊥) × ((McsRow a → ⊥) × ((FormatRow a → ⊥) × ((LengthRow a → ⊥) × Unit {0}))))))
-    × (((writtenNumber (writtenOf (checkOf a) room) ≡ 8)
-    ↔ (RoomRow room × ((WidthRow a → ⊥) × ((McsRow a → ⊥) × ((FormatRow a → ⊥) × ((LengthRow a → ⊥) × ((SeedRow a → ⊥) × Unit {0})))))))
-    × ((writtenNumber (writtenOf (checkOf a) room) ≡ 0)
-    ↔ ((WidthRow a → ⊥) × ((McsRow a → ⊥) × ((FormatRow a → ⊥) × ((LengthRow a → ⊥) × ((SeedRow a → ⊥) × ((RoomRow room → ⊥) × Unit {0}))))))))))))
+WriteRefusals = (a : RawSettings) (room : ℕ) → let n = writtenNumber (writtenOf (checkOf a) room) in
+    ((n ≡ 1) ↔ (WidthRow a × Unit {0}))
+    × (((n ≡ 2) ↔ (McsRow a × ((WidthRow a → ⊥) × Unit {0})))
+    × (((n ≡ 3) ↔ (FormatRow a × ((WidthRow a → ⊥) × ((McsRow a → ⊥) × Unit {0}))))
+    × (((n ≡ 4) ↔ (LengthRow a × ((WidthRow a → ⊥) × ((McsRow a → ⊥) × ((FormatRow a → ⊥) × Unit {0})))))
+    × (((n ≡ 5) ↔ (SeedRow a × ((WidthRow a → ⊥) × ((McsRow a → ⊥) × ((FormatRow a → ⊥) × ((LengthRow a → ⊥) × Unit {0}))))))
+    × (((n ≡ 8) ↔ (RoomRow room × ((WidthRow a → ⊥) × ((McsRow a → ⊥) × ((FormatRow a → ⊥) × ((LengthRow a → ⊥) × ((SeedRow a → ⊥) × Unit {0})))))))
+    × ((n ≡ 0) ↔ ((WidthRow a → ⊥) × ((McsRow a → ⊥) × ((FormatRow a → ⊥) × ((LengthRow a → ⊥) × ((SeedRow a → ⊥) × ((RoomRow room → ⊥) × Unit {0}))))))))))))
+
+-- the signal read: 6, 13, 14
+abbrev pub ReadRefusals : Type 0
+ReadRefusals = (l : List ℕ) → let n = readNumber (readOf l) in
+    ((n ≡ 6) ↔ (SourceRow l × Unit {0}))
+    × (((n ≡ 13) ↔ (CrcRow l × ((SourceRow l → ⊥) × Unit {0})))
+    × (((n ≡ 14) ↔ (FormRow l × ((SourceRow l → ⊥) × ((CrcRow l → ⊥) × Unit {0}))))
+    × ((n ≡ 0) ↔ ((SourceRow l → ⊥) × ((CrcRow l → ⊥) × ((FormRow l → ⊥) × Unit {0}))))))
