@@ -5,6 +5,7 @@ use crate::settings::RawSettings;
 use crate::settings::Refusal;
 use crate::settings::Settings;
 ghost use mathlib.Core.Path.{_≡_};
+ghost use Prim.Native.Nat.{_*_, _≤_};
 ghost use Rattle.signal.specs.Settings.{checkOf, Right};
 ghost use Rattle.signal.specs.Symbols.{symbolsOf, countOf};
 
@@ -13,13 +14,21 @@ pub enum Count {
     Refused(Refusal),
 }
 
+// Six tail bits for each encoder.
+fn tail_bits(encoders: usize) -> usize
+    requires { ⌜ encoders ≤ 2 ⌝ }
+    ensures { λ r. ⌜ (r ≡ 6 * encoders) × (r ≤ 12) ⌝ }
+{
+    6 * encoders
+}
+
 // The data symbols of accepted settings: the least whole number not below (16 + 8 * length + 6 * N_ES) / N_DBPS.
 pub fn symbols_of(s: Settings) -> u64
     requires { ⌜ Right s ⌝ }
     ensures { λ r. ⌜ r ≡ symbolsOf s ⌝ }
 {
     let plan = settings::plan_of(s);
-    let bits = 16 + 8 * s.length as usize + 6 * plan.encoders;
+    let bits = 16 + 8 * s.length as usize + tail_bits(plan.encoders);
     let dbps = plan.dbps;
     ((bits + (dbps - 1)) / dbps) as u64
 }

@@ -3,6 +3,22 @@
 //! The core tests every input itself, so any numbers may be passed: bad ones
 //! come back as a [`Refusal`]. [`Settings`] is the typed form for callers that
 //! know what they want; [`RawSettings`] passes numbers on as they are.
+//!
+//! ```
+//! use controller::{sig_bytes, symbol_count, Flags, Format, Refusal, Settings, Width};
+//!
+//! let s = Settings {
+//!     width: Width::Mhz40,
+//!     mcs: 15,
+//!     format: Format::Mixed,
+//!     length: 100,
+//!     seed: 1,
+//!     flags: Flags { smoothing: true, not_sounding: true, ..Flags::default() },
+//! };
+//! assert_eq!(symbol_count(s), Ok(1));
+//! assert_eq!(sig_bytes(s), Ok([0x8F, 0x64, 0x00, 0x07, 0x54, 0x00]));
+//! assert_eq!(symbol_count(Settings { mcs: 32, ..s }), Err(Refusal::Mcs));
+//! ```
 
 #![deny(unsafe_code)]
 
