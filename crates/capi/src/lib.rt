@@ -9,7 +9,7 @@ use signal::settings::Refusal;
 use signal::symbols;
 use signal::symbols::Count;
 ghost use mathlib.Core.Path.{_≡_};
-ghost use Prim.Native.Nat.{_<_, _≤_};
+ghost use Prim.Native.Nat.{_<_};
 ghost use lib.ListN.{length as lengthOf};
 ghost use Rattle.signal.specs.Settings.{checkOf};
 ghost use Rattle.signal.specs.Symbols.{countOf};

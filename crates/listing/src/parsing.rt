@@ -1,8 +1,6 @@
 // A line as three numbers: MCS, width, length.
 ghost use mathlib.Core.Path.{_≡_};
-ghost use mathlib.Core.Bool.{_&&_};
-ghost use Prim.Native.Nat.{_+_, _-_, _≤_, _<_};
-ghost use lib.Dec.{leb, eqb};
+ghost use Prim.Native.Nat.{_+_, _-_, _≤_};
 ghost use lib.ListN.{length, take, drop};
 ghost use Rattle.listing.specs.Lines.{stretch};
 ghost use Rattle.listing.specs.Parsing.{isDigit, oneToFive, separatedAt, decimalValue, parsedOf, Small};

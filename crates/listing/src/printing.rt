@@ -84,7 +84,7 @@ pub(crate) fn push_text(row: Row, text: &[u8]) -> Row
 
 fn push_digit_if(row: Row, shown: bool, n: u64) -> Row
     requires { ⌜ (row .len < 40) × (n < 10) ⌝ }
-    ensures { λ r. ⌜ r ≡ pushedAll row (digitIf shown n) × (r .len ≤ row .len + 1) ⌝ }
+    ensures { λ r. ⌜ (r ≡ pushedAll row (digitIf shown n)) × (r .len ≤ row .len + 1) ⌝ }
 {
     if shown {
         push(row, (48 + n) as u8)

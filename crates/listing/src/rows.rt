@@ -10,7 +10,7 @@ use signal::settings::Refusal;
 use signal::symbols;
 use signal::symbols::Count;
 ghost use mathlib.Core.Path.{_≡_};
-ghost use Prim.Native.Nat.{_+_, _<_, _≤_};
+ghost use Prim.Native.Nat.{_<_, _≤_};
 ghost use Rattle.listing.specs.Printing.{emptyRow, pushedAll, rowHolding};
 ghost use Rattle.listing.specs.Rows.{zeros, rawFor, inputsText, refusedText, acceptedText, rowFor, malformedText, rowOf};
 ghost use Rattle.signal.specs.HtSig.{writtenInto};

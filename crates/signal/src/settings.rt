@@ -2,8 +2,6 @@
 use coding::plan;
 use coding::plan::Plan;
 ghost use mathlib.Core.Path.{_≡_};
-ghost use Prim.Native.Nat.{_<_, _≤_};
-ghost use Rattle.coding.specs.Plan.{planOf};
 ghost use Rattle.signal.specs.Settings.{numberOf, checkOf, IsRefused, encodersOf, planFor, Right};
 
 // The refusals of document 01's table, in its order.
