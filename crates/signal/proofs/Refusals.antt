@@ -53,6 +53,7 @@ module _ (a : RawSettings) where
       go false false false false true = refused Seed
       go false false false false false = accepted
 
+  -- the check of the settings gives each refusal exactly when its row applies and none before it does
   pub settings-refusals : SettingsRefusals a (checkedNumber (checkOf a))
   settings-refusals = given-exactly (checkedNumber (checkOf a)) settingsRules tt (after-settings checkedNumber [] (λ r. refl) refl)
 
