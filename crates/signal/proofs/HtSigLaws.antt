@@ -7,7 +7,7 @@ use Prim.Native.Nat.{ℕ, zero, suc, _+_, _-_, _*_, _/_, _%_, _^_, _<_, _≤_}
 use native.Mathlib.Nat.{mod-eq-of-lt, div-one}
 use native.Mathlib.Omega.{arith}
 use lib.ListN.{length, take, drop, length-append, length-drop}
-use lib.Seq.{drop-at}
+use lib.Seq.{drop-at, take-at}
 use lib.Dec.{T, ltb, eqb}
 use borrow.Author.Tests.{lt-ltb, le-ltb, ltb-false, eq-eqb, ne-eqb, eqb-true, eqb-false, not-false}
 use Rattle.laws.specs.Test.{among}
@@ -203,7 +203,7 @@ read-word l h b =
 pub read-short : (l : List ℕ) → SourceRow l → readOf l ≡ ReadRefused Source
 read-short l n = ap (λ (t : Bool). byTests (not t) (crcWrong (bitsIn l)) (formWrong (bitsIn l)) (fieldsIn (bitsIn l))) (ne-eqb (length l) 6 n)
 
--- the read of six bytes, for the code: by what its helpers say of the number
+-- the read of six bytes, for the code: by what its parts say of the number
 pub read-by : (l : List ℕ) (w : ℕ) (b c : Bool) (g : SigFields) → length l ≡ 6 → AreBytes l → w ≡ wordIn l → wordCrcWrong w ≡ b → wordFormWrong w ≡ c → g ≡ fieldsInWord w
     → byTests false b c g ≡ readOf l
 read-by l w b c g h k e p q r =
@@ -626,6 +626,25 @@ rest-stays (Accepted s) l = go (ltb (length l) 6) refl
           length-append (sigBytes (fieldsOf s)) (drop 6 l) ∙ ap (λ (k : ℕ). k + length (drop 6 l)) n ∙ simp length-drop (omega arith),
         )
 rest-stays (Refused r) l = (refl, refl)
+
+-- where the settings are accepted and there is room, the first six bytes are the field's
+pub six-written : (s : Settings) (l : List ℕ) → 6 ≤ length l → take 6 (writtenInto (Accepted s) l) ≡ sigBytes (fieldsOf s)
+six-written s l h = simp (le-ltb (length l) 6) (take-at (sigBytes (fieldsOf s)) (drop 6 l) 6 (six-length (fieldsOf s)))
+
+abbrev blank : List ℕ
+blank = 0 ∷ 0 ∷ 0 ∷ 0 ∷ 0 ∷ 0 ∷ []
+
+blank-refused : readOf blank ≡ ReadRefused SigCrc
+unfolding crcWrong
+blank-refused = refl
+
+-- a program that writes nothing does not meet the write's promise: six zeros never stay
+pub blank-changes : (s : Settings) → Right s → writtenInto (Accepted s) blank ≡ blank → ⊥
+blank-changes s r e =
+    let w : blank ≡ sigBytes (fieldsOf s) = sym (ap (take 6) e) ∙ six-written s blank (omega arith) in
+    let f : ReadRefused SigCrc ≡ Fields (fieldsOf s) = sym blank-refused ∙ ap readOf w ∙ read-of-written s r in
+    let z : _≡_ {A = ℕ} 0 1 = cc in
+    omega arith
 
 -- ---- the refusals of the write
 

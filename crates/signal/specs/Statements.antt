@@ -26,15 +26,23 @@ ReadExactly = (l : List ℕ) → AreBytes l
 
 -- ---- refusals: "given exactly when" its row applies and none tested before it does; 0 where none applies
 
--- of a number that a call gives by the settings alone
-abbrev pub SettingsRefusals : RawSettings → ℕ → Type 0
-SettingsRefusals a n =
+-- no row of the settings applies, and what else holds
+abbrev pub NoSettingsRow : RawSettings → Type 0 → Type 0
+NoSettingsRow a Rest = (WidthRow a → ⊥) × ((McsRow a → ⊥) × ((FormatRow a → ⊥) × ((LengthRow a → ⊥) × ((SeedRow a → ⊥) × Rest))))
+
+-- 1 to 5 of a number that a call gives, and what holds of its further refusals
+abbrev pub SettingsRows : RawSettings → ℕ → Type 0 → Type 0
+SettingsRows a n Further =
     ((n ≡ 1) ↔ (WidthRow a × Unit {0}))
     × (((n ≡ 2) ↔ (McsRow a × ((WidthRow a → ⊥) × Unit {0})))
     × (((n ≡ 3) ↔ (FormatRow a × ((WidthRow a → ⊥) × ((McsRow a → ⊥) × Unit {0}))))
     × (((n ≡ 4) ↔ (LengthRow a × ((WidthRow a → ⊥) × ((McsRow a → ⊥) × ((FormatRow a → ⊥) × Unit {0})))))
     × (((n ≡ 5) ↔ (SeedRow a × ((WidthRow a → ⊥) × ((McsRow a → ⊥) × ((FormatRow a → ⊥) × ((LengthRow a → ⊥) × Unit {0}))))))
-    × ((n ≡ 0) ↔ ((WidthRow a → ⊥) × ((McsRow a → ⊥) × ((FormatRow a → ⊥) × ((LengthRow a → ⊥) × ((SeedRow a → ⊥) × Unit {0}))))))))))
+    × Further))))
+
+-- of a call that refuses by the settings alone
+abbrev pub SettingsRefusals : RawSettings → ℕ → Type 0
+SettingsRefusals a n = SettingsRows a n ((n ≡ 0) ↔ NoSettingsRow a (Unit {0}))
 
 -- the symbol count: 1 to 5
 abbrev pub CountRefusals : Type 0
@@ -47,13 +55,9 @@ RoomRow room = room < 6
 -- the signal write: 1 to 5, then 8
 abbrev pub WriteRefusals : Type 0
 WriteRefusals = (a : RawSettings) (room : ℕ) → let n = writtenNumber (writtenOf (checkOf a) room) in
-    ((n ≡ 1) ↔ (WidthRow a × Unit {0}))
-    × (((n ≡ 2) ↔ (McsRow a × ((WidthRow a → ⊥) × Unit {0})))
-    × (((n ≡ 3) ↔ (FormatRow a × ((WidthRow a → ⊥) × ((McsRow a → ⊥) × Unit {0}))))
-    × (((n ≡ 4) ↔ (LengthRow a × ((WidthRow a → ⊥) × ((McsRow a → ⊥) × ((FormatRow a → ⊥) × Unit {0})))))
-    × (((n ≡ 5) ↔ (SeedRow a × ((WidthRow a → ⊥) × ((McsRow a → ⊥) × ((FormatRow a → ⊥) × ((LengthRow a → ⊥) × Unit {0}))))))
-    × (((n ≡ 8) ↔ (RoomRow room × ((WidthRow a → ⊥) × ((McsRow a → ⊥) × ((FormatRow a → ⊥) × ((LengthRow a → ⊥) × ((SeedRow a → ⊥) × Unit {0})))))))
-    × ((n ≡ 0) ↔ ((WidthRow a → ⊥) × ((McsRow a → ⊥) × ((FormatRow a → ⊥) × ((LengthRow a → ⊥) × ((SeedRow a → ⊥) × ((RoomRow room → ⊥) × Unit {0}))))))))))))
+    SettingsRows a n
+    (((n ≡ 8) ↔ (RoomRow room × NoSettingsRow a (Unit {0})))
+    × ((n ≡ 0) ↔ NoSettingsRow a ((RoomRow room → ⊥) × Unit {0})))
 
 -- the signal read: 6, 13, 14
 abbrev pub ReadRefusals : Type 0

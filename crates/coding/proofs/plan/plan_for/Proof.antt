@@ -5,6 +5,10 @@ use borrow.Author.Needs.{needs}
 use Rattle.coding.proofs.plan.plan_for.Statement.{statement}
 use Rattle.coding.proofs.plan.plan_for.Tie as tie
 
+returns : tie.Need-returns
+unfolding planOf
+returns c = rw (c .carriers-of .ensures)
+
 add-streams : tie.Need-add-streams
 add-streams c = search needs
 
@@ -40,10 +44,6 @@ mul-dbps-2 c = rw (c .carriers-of .ensures) (record { fits = omega (arith, produ
 
 div-dbps : tie.Need-div-dbps
 div-dbps c = products (c .before .args .width) (c .before .pre .width) (c .before .args .mcs) (c .before .pre .mcs) .1 .1 .1
-
-returns : tie.Need-returns
-unfolding planOf
-returns c = rw (c .carriers-of .ensures)
 
 pub plan-for-spec : {M : Type 1} → statement M
 plan-for-spec =
