@@ -2,13 +2,15 @@
 
 use mathlib.Core.Path.{_≡_, _∙_, refl, sym, ap, subst}
 use mathlib.Core.List.{List}
-use Prim.Native.Nat.{ℕ, _+_, _<_}
+use mathlib.Core.Logic.{⊎-elim}
+use Prim.Native.Nat.{ℕ, _+_, _-_, _<_, _≤_}
 use native.Mathlib.Nat.{not-suc-le-zero, zero-add}
 use native.Mathlib.Omega.{arith}
 use lib.ListN.{length, getD, set, length-set}
 use lib.Seq.{getD-set-same, getD-set-other}
 use borrow.Author.Count.{below-more}
 use Rattle.laws.specs.Filled.{Filled}
+use Rattle.laws.proofs.Search.{lt-or-le}
 
 module _ {A : Type 0} (z : A) (a : ℕ) (f : ℕ → A) where
   -- before the first turn
@@ -38,3 +40,17 @@ module _ {A : Type 0} (z : A) (a : ℕ) (f : ℕ → A) where
 -- an element, where the part starts at 0
 pub fill-at : {A : Type 0} (z : A) (f : ℕ → A) {n : ℕ} {d₀ d : List A} → Filled z 0 f n d₀ d → (i : ℕ) → i < n → getD d i z ≡ f i
 fill-at z f {d = d} p i h = ap (λ (j : ℕ). getD d j z) (sym (zero-add i)) ∙ p .done i h
+
+-- a part, and then the part after it
+pub fill-join : {A : Type 0} (z : A) (a : ℕ) (f : ℕ → A) (n m : ℕ) (d₀ d d' : List A)
+    → Filled z a f n d₀ d → Filled z (a + n) (λ i. f (n + i)) m d d' → Filled z a f (n + m) d₀ d'
+fill-join z a f n m d₀ d d' p q = record {
+  same = q .same ∙ p .same;
+  done = λ i l. ⊎-elim
+      (λ (h : i < n). q .before (a + i) (omega arith) ∙ p .done i h)
+      (λ (h : n ≤ i).
+      ap (λ (j : ℕ). getD d' j z) (omega arith) ∙ q .done (i - n) (omega arith) ∙ ap f (omega arith))
+      (lt-or-le i n);
+  before = λ i l. q .before i (omega arith) ∙ p .before i l;
+  after = λ i l. q .after i (omega arith) ∙ p .after i (omega arith);
+}

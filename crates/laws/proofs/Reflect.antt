@@ -1,9 +1,9 @@
 -- Tests and the facts that they stand for, both ways. Assumes nothing.
-use mathlib.Core.Path.{_≡_, refl, sym}
+use mathlib.Core.Path.{_≡_, refl, sym, subst}
 use mathlib.Core.Bool.{Bool, true, false, not, _&&_, _||_}
 use mathlib.Core.Logic.{_↔_, _⊎_, inl, inr, ⊎-elim}
 use Prim.Native.Nat.{ℕ, _<_}
-use lib.Dec.{eqb, ltb}
+use lib.Dec.{T, eqb, eqb-refl, ltb}
 use borrow.Author.Tests.{ltb-true, lt-ltb, eqb-true, eq-eqb, eqb-false, ne-eqb}
 use Rattle.laws.proofs.Refusing.{true-not-false}
 
@@ -12,6 +12,10 @@ less a b = (ltb-true a b, lt-ltb a b)
 
 pub same : (a b : ℕ) → (eqb a b ≡ true) ↔ (a ≡ b)
 same a b = (eqb-true a b, eq-eqb a b)
+
+-- equal numbers pass the test of equality
+pub eqb-of : (a b : ℕ) → a ≡ b → T (eqb a b)
+eqb-of a b e = subst (λ (x : ℕ). T (eqb a x)) e (eqb-refl a)
 
 pub other : (a b : ℕ) → (not (eqb a b) ≡ true) ↔ (a ≡ b → ⊥)
 other a b = (λ e. eqb-false a b (flip (eqb a b) e), λ n. back (ne-eqb a b n))

@@ -2,10 +2,11 @@
 use mathlib.Core.Path.{_≡_, refl, sym, subst}
 use mathlib.Core.Bool.{Bool, true, false}
 use mathlib.Core.Logic.{_⊎_, inl, inr, ⊎-elim}
-use Prim.Native.Nat.{ℕ, zero, suc, _<_, _≤_}
+use Prim.Native.Nat.{ℕ, zero, suc, _+_, _<_, _≤_}
 use native.Mathlib.Decide.{decLt}
 use native.Mathlib.Nat.{not-suc-le-zero, eq-or-lt-of-le, le-of-suc-le-suc}
 use native.Mathlib.Omega.{arith}
+use Rattle.laws.specs.Least.{firstFrom}
 
 -- one of two numbers is the smaller, or they are in the other order
 pub lt-or-le : (a b : ℕ) → (a < b) ⊎ (b ≤ a)
@@ -32,3 +33,12 @@ search-below f (suc n) = ⊎-elim (λ a. go a (f n) refl) (λ (e : FirstFailing 
     go a true p =
         inl (λ k h. ⊎-elim (λ e. subst (λ (m : ℕ). f m ≡ true) (sym e) p) (λ l. a k l) (eq-or-lt-of-le (le-of-suc-le-suc h)))
     go a false p = inr (record { at = n; below = omega arith; fails = p; passed = a })
+
+-- a number is the first to pass where it passes and none before it does
+pub first-is : (f : ℕ → Bool) (k n a : ℕ) → k ≤ a → a < k + n → f a ≡ true → ((b : ℕ) → k ≤ b → b < a → f b ≡ false) → firstFrom f k n ≡ a
+first-is f k zero a low high hit none = absurd (omega arith)
+first-is f k (suc n) a low high hit none =
+    ⊎-elim
+    (λ (e : k ≡ a). let t : f k ≡ true = subst (λ (m : ℕ). f m ≡ true) (sym e) hit in simp t e)
+    (λ (l : k < a). let t : f k ≡ false = none k (omega arith) l in simp t (first-is f (suc k) n a l (omega arith) hit (λ b h. none b (omega arith))))
+    (eq-or-lt-of-le low)

@@ -1,5 +1,6 @@
 pub mod Test
 pub mod Claim
+pub mod Least
 pub mod Filled
 pub mod Scattered
 pub mod Refusals

@@ -5,6 +5,7 @@ use mathlib.Core.Bool.{Bool, true, false}
 use mathlib.Core.List.{List, [], _∷_}
 use Prim.Native.Nat.{ℕ, zero, suc, _<_}
 use native.Mathlib.Nat.{eq-or-lt-of-le, le-of-suc-le-suc, not-suc-le-zero}
+use native.Mathlib.Omega.{arith}
 use lib.Dec.{T, eqb, eqb→eq}
 
 abbrev pub both : Bool → Bool → Bool
@@ -18,6 +19,10 @@ both-left false b t = t
 pub both-right : (a b : Bool) → T (both a b) → T b
 both-right true b t = t
 both-right false b t = absurd t
+
+pub both-of : (a b : Bool) → T a → T b → T (both a b)
+both-of true b t u = u
+both-of false b t u = t
 
 -- one of two tests passes
 abbrev pub either : Bool → Bool → Bool
@@ -39,6 +44,10 @@ below-at f (suc n) t k h =
     ⊎-elim (λ e. subst (λ (m : ℕ). T (f m)) (sym e) (both-left (f n) (below f n) t))
     (λ l. below-at f n (both-right (f n) (below f n) t) k l)
     (eq-or-lt-of-le (le-of-suc-le-suc h))
+
+pub below-of : (f : ℕ → Bool) (n : ℕ) → ((k : ℕ) → k < n → T (f k)) → T (below f n)
+below-of f zero e = tt
+below-of f (suc n) e = both-of (f n) (below f n) (e n (omega arith)) (below-of f n (λ k l. e k (omega arith)))
 
 -- a number is one of a list; a test passes at each number of a list
 abbrev pub among : List ℕ → ℕ → Bool

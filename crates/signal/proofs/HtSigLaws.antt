@@ -14,7 +14,7 @@ use Rattle.laws.specs.Test.{among}
 use Rattle.laws.specs.Refusals.{Rule, firstOf}
 use Rattle.laws.proofs.Refusing.{given-exactly}
 use Rattle.laws.proofs.Reflect.{less, same, other, either, or-false}
-use Rattle.coding.specs.Plan.{widths}
+use Rattle.chain.specs.Plan.{widths}
 use Rattle.signal.specs.declared.settings.Refusal.{Refusal}
 use Rattle.signal.specs.declared.settings.Refusal.the-variants.{Source, Room, SigCrc, SigForm}
 use Rattle.signal.specs.declared.settings.RawSettings.{RawSettings}

@@ -9,8 +9,8 @@ use lib.Dec.{T, eqb, ltb}
 use Rattle.laws.specs.Test.{among}
 use Rattle.laws.proofs.Refusing.{true-not-false}
 use Rattle.laws.proofs.Reflect.{or-false}
-use Rattle.coding.specs.Plan.{widths, encoderCounts, streamsOf, planOf, Planned, Fits}
-use Rattle.coding.proofs.Plans.{fits}
+use Rattle.chain.specs.Plan.{widths, encoderCounts, streamsOf, planOf, Planned, Fits}
+use Rattle.chain.proofs.Plans.{fits}
 use Rattle.signal.specs.Settings.{badWidth, badMcs, badFormat, badLength, badSeed, settingsOf, checkOf, encodersOf, planFor, Right}
 use Rattle.signal.specs.Symbols.{bitsToSend, ceil, symbolsOf, countOf}
 use Rattle.signal.specs.declared.settings.RawSettings.{RawSettings}

@@ -1,10 +1,15 @@
--- P1 to P6 hold, by one computed test. Assumes nothing.
+-- P1 to P11 hold, by one computed test. Assumes nothing.
 use Rattle.laws.specs.Claim.{table, Holds, sound}
-use Rattle.coding.specs.Plan.{planOf}
+use Rattle.chain.specs.Plan.{planOf}
+use Rattle.chain.specs.Scrambler.{stateAt}
+use Rattle.chain.specs.Encoder.{tap}
+use Rattle.chain.specs.Puncture.{keptOf}
+use Rattle.chain.specs.Parser.{axisBits}
+use Rattle.chain.specs.Interleaver.{columns, rows, rotation, blockOf, byColumns, alternated, shiftOf, rotated, place}
 use Rattle.signal.specs.Settings.{planFor}
 use Rattle.signal.specs.Symbols.{symbolsOf}
-use Rattle.signal.specs.Worked.{workedCounts}
+use Rattle.signal.specs.Worked.{checkedByHand}
 
-pub worked-counts : Holds (table workedCounts)
-unfolding symbolsOf planFor planOf
-worked-counts = sound (table workedCounts) tt
+pub checked-by-hand : Holds (table checkedByHand)
+unfolding symbolsOf planFor planOf stateAt tap keptOf place byColumns alternated rotated columns rows rotation shiftOf blockOf axisBits
+checked-by-hand = sound (table checkedByHand) tt

@@ -5,8 +5,8 @@ use mathlib.Core.Logic.{_⊎_}
 use Prim.Native.Nat.{ℕ, _<_}
 use lib.Dec.{T, ltb, eqb}
 use Rattle.laws.specs.Test.{among}
-use Rattle.coding.specs.Plan.{widths, streamsOf, planOf}
-use Rattle.coding.specs.declared.plan.Plan.{Plan}
+use Rattle.chain.specs.Plan.{widths, streamsOf, planOf}
+use Rattle.chain.specs.declared.plan.Plan.{Plan}
 use Rattle.signal.specs.declared.settings.Refusal.{Refusal}
 use Rattle.signal.specs.declared.settings.Refusal.the-variants.{Width, Mcs, Format, Length, Seed, Source, Place, Room, Point, Code, Frame, Closed, SigCrc, SigForm}
 use Rattle.signal.specs.declared.settings.RawSettings.{RawSettings}

@@ -1,6 +1,6 @@
 // Settings: the numbers of a call as they come, and what is accepted of them (document 01, 'Settings').
-use coding::plan;
-use coding::plan::Plan;
+use chain::plan;
+use chain::plan::Plan;
 ghost use mathlib.Core.Path.{_≡_};
 ghost use Rattle.signal.specs.Settings.{numberOf, checkOf, IsRefused, encodersOf, planFor, Right};
 

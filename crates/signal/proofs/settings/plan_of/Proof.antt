@@ -1,5 +1,5 @@
 use mathlib.Core.Path.{_∙_, ap}
-use Rattle.coding.specs.Plan.{planOf}
+use Rattle.chain.specs.Plan.{planOf}
 use Rattle.signal.specs.Settings.{planFor}
 use Rattle.signal.proofs.SettingsLaws.{planned}
 use borrow.Author.Needs.{needs}

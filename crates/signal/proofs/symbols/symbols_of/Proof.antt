@@ -2,8 +2,8 @@
 use mathlib.Core.Path.{_≡_, _∙_, sym, ap, ap₂, subst}
 use native.Mathlib.Omega.{arith}
 use Prim.Native.Nat.{ℕ, _+_, _-_, _*_}
-use Rattle.coding.specs.Plan.{Fits}
-use Rattle.coding.specs.declared.plan.Plan.{Plan}
+use Rattle.chain.specs.Plan.{Fits}
+use Rattle.chain.specs.declared.plan.Plan.{Plan}
 use Rattle.signal.specs.Settings.{encodersOf}
 use Rattle.signal.specs.Symbols.{ceil, symbolsOf}
 use Rattle.signal.proofs.SettingsLaws.{plan-fits, encoders-few, planned-encoders}

@@ -1,5 +1,5 @@
-use Rattle.coding.proofs.plan.carriers_of.Statement.{statement}
-use Rattle.coding.proofs.plan.carriers_of.Tie as tie
+use Rattle.chain.proofs.plan.carriers_of.Statement.{statement}
+use Rattle.chain.proofs.plan.carriers_of.Tie as tie
 
 returns : tie.Need-returns
 returns c = simp (c .if1 .taken)

@@ -1,8 +1,10 @@
 // The numbers that a width, an MCS and a number of encoders give: document 01, 'Settings'.
 ghost use mathlib.Core.Path.{_≡_};
-ghost use Rattle.coding.specs.Plan.{carriersOf, planOf, Planned};
+ghost use Rattle.chain.specs.Plan.{carriersOf, planOf, Planned};
 
 pub struct Plan {
+    // Channel width in MHz.
+    pub width: usize,
     // Spatial streams, N_SS.
     pub streams: usize,
     // Coded bits per data carrier, N_BPSC.
@@ -47,6 +49,7 @@ pub fn plan_for(width: usize, mcs: usize, encoders: usize) -> Plan
     let coded = block * streams;
     let dbps = coded * RATE_STEPS[rate] / kept;
     Plan {
+        width,
         streams,
         bits,
         kept,

@@ -7,13 +7,23 @@ use Prim.Native.Nat.{ℕ, _+_, _-_, _*_, _/_, _%_, _<_, _≤_}
 use lib.Dec.{T, eqb}
 use lib.ListN.{getD}
 use Rattle.laws.specs.Test.{among}
-use Rattle.coding.specs.declared.plan.Plan.{Plan}
+use Rattle.chain.specs.declared.plan.Plan.{Plan}
 
 abbrev pub widths : List ℕ
 widths = 20 ∷ 40 ∷ []
 
 abbrev pub encoderCounts : List ℕ
 encoderCounts = 1 ∷ 2 ∷ []
+
+abbrev pub streamCounts : List ℕ
+streamCounts = 1 ∷ 2 ∷ 3 ∷ 4 ∷ []
+
+abbrev pub bitCounts : List ℕ
+bitCounts = 1 ∷ 2 ∷ 4 ∷ 6 ∷ []
+
+-- the rates 1/2, 2/3, 3/4 and 5/6, by the coded bits kept of one encoder step less
+abbrev pub keptCounts : List ℕ
+keptCounts = 2 ∷ 3 ∷ 4 ∷ 6 ∷ []
 
 -- "streams NSS = floor(m/8) + 1"
 abbrev pub streamsOf : ℕ → ℕ
@@ -37,6 +47,7 @@ carriersOf w = cond (eqb w 40) 108 52
 -- "Block = carriers × B. Coded bits per symbol = block × NSS. Data bits per symbol D = coded × rate"
 unfoldable pub planOf : (w m e : ℕ) → Plan
 planOf w m e = record {
+  width = w;
   streams = streamsOf m;
   bits = bitsOf m;
   kept = rateKept m;
@@ -59,11 +70,12 @@ groupsOf p = p .coded / (p .encoders * p .kept)
 
 -- what holds of every plan; all that the layers above ask of one
 pub record Fits (p : Plan) : Type 0 where
-  pub streams : T (among (1 ∷ 2 ∷ 3 ∷ 4 ∷ []) (p .streams))
-  pub bits : T (among (1 ∷ 2 ∷ 4 ∷ 6 ∷ []) (p .bits))
-  pub kept : T (among (2 ∷ 3 ∷ 4 ∷ 6 ∷ []) (p .kept))
+  pub width : T (among widths (p .width))
+  pub streams : T (among streamCounts (p .streams))
+  pub bits : T (among bitCounts (p .bits))
+  pub kept : T (among keptCounts (p .kept))
   pub encoders : T (among encoderCounts (p .encoders))
-  pub carriers : T (among (52 ∷ 108 ∷ []) (p .carriers))
+  pub carriers-is : p .carriers ≡ carriersOf (p .width)
   pub block-is : p .block ≡ p .carriers * p .bits
   pub coded-is : p .coded ≡ p .block * p .streams
   pub dbps-some : 26 ≤ p .dbps

@@ -1,9 +1,9 @@
 use native.Mathlib.Omega.{arith}
-use Rattle.coding.specs.Plan.{planOf}
-use Rattle.coding.proofs.Plans.{products}
+use Rattle.chain.specs.Plan.{planOf}
+use Rattle.chain.proofs.Plans.{products}
 use borrow.Author.Needs.{needs}
-use Rattle.coding.proofs.plan.plan_for.Statement.{statement}
-use Rattle.coding.proofs.plan.plan_for.Tie as tie
+use Rattle.chain.proofs.plan.plan_for.Statement.{statement}
+use Rattle.chain.proofs.plan.plan_for.Tie as tie
 
 returns : tie.Need-returns
 unfolding planOf

@@ -1,0 +1,80 @@
+-- Label bits: they are bits, and those of a symbol depend on its own inputs and the six of each encoder before them only.
+-- Assumes of the plan that it fits.
+use mathlib.Core.Path.{_≡_, _∙_, refl, sym, ap₂}
+use mathlib.Core.Logic.{⊎-elim}
+use Prim.Native.Nat.{ℕ, zero, suc, _+_, _-_, _*_, _^_, _<_, _≤_}
+use native.Mathlib.Nat.{div-add-mod', mul-le-mul-right, suc-mul, pow-zero, pow-suc}
+use native.Mathlib.Omega.{arith}
+use borrow.Author.Tests.{lt-ltb, le-ltb}
+use Rattle.laws.proofs.Search.{lt-or-le}
+use Rattle.chain.specs.declared.plan.Plan.{Plan}
+use Rattle.chain.specs.Plan.{Fits}
+use Rattle.chain.specs.Encoder.{withHistory}
+use Rattle.chain.specs.Parser.{axisBits}
+use Rattle.chain.specs.Labels.{share, codedBit, streamBit, labelBit, written, halfLabel, halvesOf}
+use Rattle.chain.specs.Statements.{AgreeAt}
+use Rattle.chain.proofs.KeptLaws.{kept-bit}
+use Rattle.chain.proofs.Window.{symbol-window, window-only}
+use Rattle.chain.proofs.ParserLaws.{parses}
+use Rattle.chain.proofs.InterleaverLaws.{interleaves-plan}
+
+-- bits write a number below the power of two
+pub written-lt : (f : ℕ → ℕ) (a count : ℕ) → ((k : ℕ) → f k < 2) → written f a count < 2 ^ count
+unfolding written
+written-lt f a zero bits = rw pow-zero (omega arith)
+written-lt f a (suc t) bits = rw pow-suc (omega (arith, written-lt f a t bits, bits (a + t)))
+
+-- the same bits write the same number
+pub written-ext : (f g : ℕ → ℕ) (a count : ℕ) → ((t : ℕ) → t < count → f (a + t) ≡ g (a + t)) → written f a count ≡ written g a count
+unfolding written
+written-ext f g a zero same = refl
+written-ext f g a (suc t) same =
+    ap₂ (λ (w b : ℕ). 2 * w + b) (written-ext f g a t (λ s l. same s (omega arith))) (same t (omega arith))
+
+-- a label bit is a bit
+pub label-bit : (p : Plan) (x : ℕ → ℕ) (n i r : ℕ) → labelBit p x n i r < 2
+unfolding labelBit streamBit codedBit
+label-bit p x n i r = kept-bit _ _ _
+
+-- a half label is one of its axis's numbers
+pub half-lt : (p : Plan) (x : ℕ → ℕ) (n i m : ℕ) → halfLabel p x n i m < 2 ^ axisBits (p .bits)
+half-lt p x n i m = written-lt (labelBit p x n i) (m * axisBits (p .bits)) (axisBits (p .bits)) (λ k. label-bit p x n i k)
+
+-- the bits of the halves are bits of the block
+pub half-below : (p : Plan) (m t : ℕ) → m < halvesOf p → t < axisBits (p .bits) → m * axisBits (p .bits) + t < p .block
+half-below p m t h l =
+    let s : ℕ = axisBits (p .bits) in
+    omega (arith, div-add-mod' (p .block) s, rw suc-mul at (mul-le-mul-right s h))
+
+module _ (p : Plan) (fits : Fits p) where
+  same-line : (x y : ℕ → ℕ) (n : ℕ) → AgreeAt p x y n
+      → (e : ℕ) → e < p .dbps + 6 * p .encoders → withHistory x (p .encoders) (n * p .dbps + e) ≡ withHistory y (p .encoders) (n * p .dbps + e)
+  unfolding withHistory
+  same-line x y n same e h =
+      ⊎-elim
+      (λ (b : n * p .dbps + e < 6 * p .encoders). simp (lt-ltb (n * p .dbps + e) (6 * p .encoders)))
+      (λ (b : 6 * p .encoders ≤ n * p .dbps + e).
+      simp (le-ltb (n * p .dbps + e) (6 * p .encoders)) (same (n * p .dbps + e - 6 * p .encoders) (omega arith) (omega arith)))
+      (lt-or-le (n * p .dbps + e) (6 * p .encoders))
+
+  -- locality of coded bits
+  pub coded-local : (x y : ℕ → ℕ) (n : ℕ) → AgreeAt p x y n
+      → (j k : ℕ) → j < p .encoders → k < share p → codedBit p x n j k ≡ codedBit p y n j k
+  coded-local x y n same j k h l =
+      sym (symbol-window p fits x n j k h)
+      ∙ window-only p fits _ _ (same-line x y n same) j k h l
+      ∙ symbol-window p fits y n j k h
+
+  -- locality: a symbol's label bits depend on its own inputs and each encoder's six before them only
+  pub labels-local : (x y : ℕ → ℕ) (n : ℕ) → AgreeAt p x y n
+      → (i r : ℕ) → i < p .streams → r < p .block → labelBit p x n i r ≡ labelBit p y n i r
+  unfolding labelBit streamBit
+  labels-local x y n same i r h l =
+      coded-local x y n same _ _ (parses p fits .encoder-lt _) (parses p fits .index-lt i _ h (interleaves-plan p fits i h .source-lt r l))
+
+  -- and so do its half labels
+  pub halves-local : (x y : ℕ → ℕ) (n : ℕ) → AgreeAt p x y n
+      → (i m : ℕ) → i < p .streams → m < halvesOf p → halfLabel p x n i m ≡ halfLabel p y n i m
+  halves-local x y n same i m h l =
+      written-ext (labelBit p x n i) (labelBit p y n i) (m * axisBits (p .bits)) (axisBits (p .bits))
+      (λ t b. labels-local x y n same i _ h (half-below p m t l b))
