@@ -1,12 +1,11 @@
 -- The inverse of all the encoders of a symbol: the check passes exactly when some inputs give the kept bits, and they are the forced ones.
 -- Assumes nothing.
-use mathlib.Core.Path.{_≡_, _∙_, refl, sym, ap, ap₂, subst}
-use mathlib.Core.Bool.{Bool, true, false}
+use mathlib.Core.Path.{_≡_, _∙_, refl, sym, ap, ap₂}
 use Prim.Native.Nat.{ℕ, zero, suc, _+_, _-_, _*_, _/_, _%_, _<_, _≤_}
 use native.Mathlib.Nat.{mod-lt, div-add-mod, mul-comm, mul-le-mul-left, mul-suc, div-lt-iff-lt-mul}
 use native.Mathlib.Omega.{arith}
-use lib.Dec.{T, eqb, eqb→eq, eqb-refl}
-use Rattle.laws.specs.Test.{below, below-at, below-of}
+use lib.Dec.{T, eqb→eq}
+use Rattle.laws.specs.Test.{below-at, below-of}
 use Rattle.laws.proofs.Reflect.{eqb-of}
 use Rattle.laws.proofs.Radix.{rem-of, quot-of}
 use Rattle.chain.specs.Puncture.{keptStep}

@@ -5,66 +5,64 @@ use mathlib.Core.Logic.{⊎-elim}
 use Prim.Native.Nat.{ℕ, _+_, _-_, _*_, _%_, _<_, _≤_}
 use native.Mathlib.Omega.{arith}
 use borrow.Author.Tests.{lt-ltb, le-ltb}
-use Rattle.laws.proofs.Search.{lt-or-le}
+use Rattle.laws.proofs.Search.{lt-or-le, parts}
 use Rattle.chain.specs.DataBits.{payloadBit, payloadEnd, tailEnd, dataBit, inputWith}
 use Rattle.chain.specs.Encoder.{withHistory}
 
 -- a bit of a payload is a bit
-pub payload-bit : (bytes : List ℕ) (k : ℕ) → payloadBit bytes k < 2
-payload-bit bytes k = omega arith
+pub payload-bit : (payload : List ℕ) (k : ℕ) → payloadBit payload k < 2
+payload-bit payload k = omega arith
 
 -- every number of a data bit is in one of four ranges
 pub ranges : {A : Type 0} (bytes encoders d : ℕ) → (d < 16 → A) → (16 ≤ d → d < payloadEnd bytes → A)
     → (payloadEnd bytes ≤ d → d < tailEnd bytes encoders → A) → (tailEnd bytes encoders ≤ d → A) → A
 ranges bytes encoders d service payload tail pad =
-    ⊎-elim
-    (λ (h : d < 16). service h)
-    (λ (h : 16 ≤ d). ⊎-elim
-    (λ (k : d < payloadEnd bytes). payload h k)
-    (λ (k : payloadEnd bytes ≤ d). ⊎-elim
-    (λ (l : d < tailEnd bytes encoders). tail k l)
-    (λ (l : tailEnd bytes encoders ≤ d). pad l)
-    (lt-or-le d (tailEnd bytes encoders)))
-    (lt-or-le d (payloadEnd bytes)))
-    (lt-or-le d 16)
+    parts 16 (payloadEnd bytes) d service payload
+    (λ h. parts (payloadEnd bytes) (tailEnd bytes encoders) d (λ k. absurd (omega arith)) tail pad)
 
 module _ (v : ℕ → ℕ) (bytes d : ℕ) where
-  -- data bits: zeros, the payload's bits, zeros
+  -- data bits of the service field are zero
   pub data-service : d < 16 → dataBit v bytes d ≡ 0
   unfolding dataBit
   data-service h = simp (lt-ltb d 16)
 
+  -- the payload's bits follow
   pub data-payload : 16 ≤ d → d < payloadEnd bytes → dataBit v bytes d ≡ v (d - 16)
   unfolding dataBit
   data-payload h k = simp (le-ltb d 16, lt-ltb d (payloadEnd bytes))
 
+  -- from the payload's end on data bits are zero
   pub data-zero : payloadEnd bytes ≤ d → dataBit v bytes d ≡ 0
   unfolding dataBit
   data-zero h = let k : 16 ≤ d = omega arith in simp (le-ltb d 16, le-ltb d (payloadEnd bytes))
 
 module _ (v : ℕ → ℕ) (bytes encoders o d : ℕ) where
-  -- before the tail and after it an input is its data bit and the scrambler's output together; in the tail it is zero
+  -- before the tail an input is its data bit and the scrambler's output together
   pub input-before : d < payloadEnd bytes → inputWith v bytes encoders o d ≡ (dataBit v bytes d + o) % 2
   unfolding inputWith
   input-before h = simp (lt-ltb d (payloadEnd bytes))
 
+  -- in the tail it is zero
   pub input-tail : payloadEnd bytes ≤ d → d < tailEnd bytes encoders → inputWith v bytes encoders o d ≡ 0
   unfolding inputWith
   input-tail h k = simp (le-ltb d (payloadEnd bytes), lt-ltb d (tailEnd bytes encoders))
 
+  -- after the tail it is again both together
   pub input-after : tailEnd bytes encoders ≤ d → inputWith v bytes encoders o d ≡ (dataBit v bytes d + o) % 2
   unfolding inputWith
   input-after h =
       let k : payloadEnd bytes ≤ d = omega arith in
       simp (le-ltb d (payloadEnd bytes), le-ltb d (tailEnd bytes encoders))
 
-  -- service and pad: the scrambler's output alone; payload: its bit and that output
+  -- service: the scrambler's output alone
   pub input-service : d < 16 → inputWith v bytes encoders o d ≡ o % 2
   input-service h = input-before (omega arith) ∙ omega (arith, data-service v bytes d h)
 
+  -- payload: its bit and the scrambler's output
   pub input-payload : 16 ≤ d → d < payloadEnd bytes → inputWith v bytes encoders o d ≡ (v (d - 16) + o) % 2
   input-payload h k = input-before k ∙ omega (arith, data-payload v bytes d h k)
 
+  -- pad: the scrambler's output alone
   pub input-pad : tailEnd bytes encoders ≤ d → inputWith v bytes encoders o d ≡ o % 2
   input-pad h = input-after h ∙ omega (arith, data-zero v bytes d (omega arith))
 
@@ -91,11 +89,20 @@ input-local v w bytes encoders o d e =
     (λ h k. input-tail v bytes encoders o d h k ∙ sym (input-tail w bytes encoders o d h k))
     (λ h. input-pad v bytes encoders o d h ∙ sym (input-pad w bytes encoders o d h))
 
--- the line of inputs: zeros before the frame's first input, and the inputs from there on
+-- the line of inputs: zeros before the frame's first input
 pub line-head : (x : ℕ → ℕ) (encoders e : ℕ) → e < 6 * encoders → withHistory x encoders e ≡ 0
 unfolding withHistory
 line-head x encoders e h = simp (lt-ltb e (6 * encoders))
 
+-- the inputs from there on
 pub line-on : (x : ℕ → ℕ) (encoders e : ℕ) → 6 * encoders ≤ e → withHistory x encoders e ≡ x (e - 6 * encoders)
 unfolding withHistory
 line-on x encoders e h = simp (le-ltb e (6 * encoders))
+
+-- the line of bits is one of bits
+pub line-bit : (x : ℕ → ℕ) → ((d : ℕ) → x d < 2) → (encoders e : ℕ) → withHistory x encoders e < 2
+line-bit x bits encoders e =
+    ⊎-elim
+    (λ (h : e < 6 * encoders). rw (line-head x encoders e h) (omega arith))
+    (λ (h : 6 * encoders ≤ e). rw (line-on x encoders e h) (bits (e - 6 * encoders)))
+    (lt-or-le e (6 * encoders))

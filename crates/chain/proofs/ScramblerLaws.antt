@@ -8,11 +8,12 @@ use lib.Dec.{lit<}
 use Rattle.laws.specs.Claim.{Claim, _is_, _under_, upTo, Holds, sound}
 use Rattle.chain.specs.Scrambler.{output, next, stateAt, scramblerBit, seedOf}
 
--- no step, and one step more
+-- no step leaves the seed
 pub state-zero : (s : ℕ) → stateAt s 0 ≡ s
 unfolding stateAt
 state-zero s = refl
 
+-- one step more
 pub step-more : (s d : ℕ) → next (stateAt s d) ≡ stateAt s (d + 1)
 unfolding stateAt
 step-more s d = rw add-one
@@ -29,7 +30,7 @@ unfolding stateAt
 state-small s zero h = h
 state-small s (suc d) h = omega arith
 
--- a state that is not zero never gets zero
+-- a state above zero stays above zero, and below 128
 abbrev someClaim : Claim
 someClaim = upTo 127 λ k. 0 under next (suc k)
 
@@ -44,7 +45,7 @@ state-some s (suc d) h l =
     let back : suc (stateAt s d - 1) ≡ stateAt s d = omega arith in
     (rw back at (next-some (stateAt s d - 1) (omega arith)), omega arith)
 
--- every state comes back after 127 steps
+-- every state comes back after 127 steps, at any place
 abbrev roundClaim : Claim
 roundClaim = upTo 128 λ s. stateAt s 127 is s
 
@@ -61,10 +62,11 @@ periods : (s d k : ℕ) → s < 128 → stateAt s (d + k * 127) ≡ stateAt s d
 periods s d zero h = ap (stateAt s) (omega arith)
 periods s d (suc k) h = ap (stateAt s) (omega arith) ∙ period s (d + k * 127) h ∙ periods s d k h
 
--- only the number of steps modulo 127 counts, for the state and for the output
+-- only the number of steps modulo 127 counts for the state
 pub by-period : (s n : ℕ) → s < 128 → stateAt s (n % 127) ≡ stateAt s n
 by-period s n h = sym (periods s (n % 127) (n / 127) h) ∙ ap (stateAt s) (omega arith)
 
+-- and for the output
 pub output-period : (s t : ℕ) → s < 128 → scramblerBit s (t % 127) ≡ scramblerBit s t
 output-period s t h = ap output (by-period s t h)
 

@@ -8,11 +8,11 @@ use lib.ListN.{getD}
 use Rattle.laws.specs.Test.{both}
 use Rattle.chain.specs.Scrambler.{scramblerBit}
 
--- "payload (low bit first)": bit k of the payload's bytes
-abbrev pub payloadBit : (bytes : List ℕ) (k : ℕ) → ℕ
-payloadBit bytes k = getD bytes (k / 8) 0 / 2 ^ (k % 8) % 2
+-- "payload (low bit first)": bit k of a payload of bytes
+abbrev pub payloadBit : (payload : List ℕ) (k : ℕ) → ℕ
+payloadBit payload k = getD payload (k / 8) 0 / 2 ^ (k % 8) % 2
 
--- where the payload ends, and where the tail does
+-- where a payload of so many bytes ends, and where the tail does
 abbrev pub payloadEnd : (bytes : ℕ) → ℕ
 payloadEnd bytes = 16 + 8 * bytes
 

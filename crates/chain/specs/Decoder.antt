@@ -1,8 +1,7 @@
 -- The encoders undone (document 01: "no data bits give these coded bits after the earlier ones"): an encoder as a machine whose last six inputs
 -- are one number, the inputs that a symbol's label bits force, and the test whether any inputs give them.
-use mathlib.Core.Path.{_≡_}
 use mathlib.Core.Bool.{Bool, cond}
-use Prim.Native.Nat.{ℕ, zero, suc, _+_, _-_, _*_, _/_, _%_, _<_}
+use Prim.Native.Nat.{ℕ, zero, suc, _+_, _-_, _*_, _/_, _%_}
 use lib.Dec.{eqb}
 use Rattle.laws.specs.Test.{below}
 use Rattle.chain.specs.declared.plan.Plan.{Plan}

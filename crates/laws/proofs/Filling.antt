@@ -1,5 +1,4 @@
 -- A loop that fills a list by an index function, one store a turn.
-
 use mathlib.Core.Path.{_≡_, _∙_, refl, sym, ap, subst}
 use mathlib.Core.List.{List}
 use mathlib.Core.Logic.{⊎-elim}
@@ -37,6 +36,10 @@ module _ {A : Type 0} (z : A) (a : ℕ) (f : ℕ → A) where
   pub fill-end : {n m : ℕ} {d₀ d : List A} → n ≡ m → Filled z a f n d₀ d → Filled z a f m d₀ d
   fill-end {d₀ = d₀} {d = d} e p = subst (λ (k : ℕ). Filled z a f k d₀ d) e p
 
+-- the start by another name
+pub fill-from : {A : Type 0} (z : A) (f : ℕ → A) {a b n : ℕ} {d₀ d : List A} → a ≡ b → Filled z a f n d₀ d → Filled z b f n d₀ d
+fill-from z f {n = n} {d₀ = d₀} {d = d} e p = subst (λ (k : ℕ). Filled z k f n d₀ d) e p
+
 -- an element, where the part starts at 0
 pub fill-at : {A : Type 0} (z : A) (f : ℕ → A) {n : ℕ} {d₀ d : List A} → Filled z 0 f n d₀ d → (i : ℕ) → i < n → getD d i z ≡ f i
 fill-at z f {d = d} p i h = ap (λ (j : ℕ). getD d j z) (sym (zero-add i)) ∙ p .done i h
@@ -54,3 +57,7 @@ fill-join z a f n m d₀ d d' p q = record {
   before = λ i l. q .before i (omega arith) ∙ p .before i l;
   after = λ i l. q .after i (omega arith) ∙ p .after i (omega arith);
 }
+
+-- elements are small where the function's values are
+pub fill-small : {f : ℕ → ℕ} {n bound : ℕ} {d₀ d : List ℕ} → Filled 0 0 f n d₀ d → ((i : ℕ) → f i < bound) → (i : ℕ) → i < n → getD d i 0 < bound
+fill-small {f} {bound = bound} p small i h = subst (λ (v : ℕ). v < bound) (sym (fill-at 0 f p i h)) (small i)

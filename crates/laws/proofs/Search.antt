@@ -12,6 +12,13 @@ use Rattle.laws.specs.Least.{firstFrom}
 pub lt-or-le : (a b : ℕ) → (a < b) ⊎ (b ≤ a)
 lt-or-le a b = elim (decLt a b) [ yes h ↦ inl h | no h ↦ inr (omega arith) ]
 
+-- a number is in one of the three parts that two others make
+pub parts : {P : Type 0} (a b t : ℕ) → (t < a → P) → (a ≤ t → t < b → P) → (b ≤ t → P) → P
+parts a b t low middle high =
+    ⊎-elim low
+    (λ (h : a ≤ t). ⊎-elim (λ (k : t < b). middle h k) high (lt-or-le t b))
+    (lt-or-le t a)
+
 abbrev pub AllBelow : (ℕ → Bool) → ℕ → Type 0
 AllBelow f n = (k : ℕ) → k < n → f k ≡ true
 

@@ -1,0 +1,69 @@
+use native.Mathlib.Omega.{arith}
+use denote.Ref.{now}
+use borrow.Author.Needs.{needs}
+use Rattle.chain.specs.DataBits.{payloadBit, coderInput}
+use Rattle.inputs.proofs.Mixing.{few-encoders, line-filled}
+use Rattle.inputs.proofs.line.coder_inputs.Statement.{statement}
+use Rattle.inputs.proofs.line.coder_inputs.Tie as tie
+
+returns : tie.Need-returns
+returns c =
+    let last = c .before .before in
+    let first = last .before .before .before .before in
+    let marks = first .before .before in
+    let start = marks .before .before .before in
+    let a = start .args in
+    line-filled (coderInput (payloadBit (now (a .payload))) (a .bytes) (a .encoders) (a .seed)) (a .encoders) (a .first) (a .count) _ _ _ _
+    (few-encoders (start .pre)) (start .pre .some) (marks .below-mark .ensures) (first .clear .ensures) (last .scrambled-inputs .ensures)
+
+mul-below-mark : tie.Need-mul-below-mark
+mul-below-mark c = omega (arith, few-encoders (c .before .before .pre))
+
+below-mark-requires : tie.Need-below-mark-requires
+below-mark-requires c κs = search needs
+
+add-start : tie.Need-add-start
+add-start c = search needs
+
+mul-start : tie.Need-mul-start
+mul-start c = omega (arith, few-encoders (c .before .before .before .pre))
+
+sub-start : tie.Need-sub-start
+sub-start c = omega (arith, few-encoders (c .before .before .before .pre))
+
+clear-requires : tie.Need-clear-requires
+clear-requires c κs = search needs
+
+sub-scrambled-inputs : tie.Need-sub-scrambled-inputs
+sub-scrambled-inputs c = search needs
+
+scrambled-inputs-requires : tie.Need-scrambled-inputs-requires
+scrambled-inputs-requires c κs =
+    let two = few-encoders (c .before .before .before .before .before .before .before .before .pre) in
+    record {
+      room = omega arith;
+      few = omega arith;
+      whole = omega arith;
+      short = omega arith;
+      at-most-two = omega arith;
+      seeded = omega arith;
+      near = omega arith;
+    }
+
+same-length : tie.Need-same-length
+same-length c = search needs
+
+pub coder-inputs-spec : {M : Type 1} → statement M
+coder-inputs-spec =
+    tie.close
+    (tie.spec
+    mul-below-mark
+    below-mark-requires
+    add-start
+    mul-start
+    sub-start
+    clear-requires
+    sub-scrambled-inputs
+    scrambled-inputs-requires
+    same-length
+    returns)

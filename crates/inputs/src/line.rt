@@ -1,0 +1,112 @@
+// The encoders' input line from any place on: histories, service, payload, tail and pad.
+use crate::bits::below_mark;
+use crate::bits::data_bits;
+use scrambler::outputs::scrambler_outputs;
+use scrambler::register::jump;
+ghost use mathlib.Core.Path.{_≡_};
+ghost use Prim.Native.Nat.{_+_, _%_, _<_, _≤_};
+ghost use lib.ListN.{length, getD};
+ghost use Rattle.laws.specs.Filled.{Filled};
+ghost use Rattle.chain.specs.DataBits.{payloadBit, coderInput};
+ghost use Rattle.chain.specs.Encoder.{withHistory};
+ghost use Rattle.inputs.specs.Asked.{InputsAsked, MixedAsked, MixAsked, ScrambledAsked, mixedBit};
+
+// Input t: the tail, from `tail` to `pad`, is zero, all else is scrambled.
+fn mixed(raw: &[u8], outputs: &[u8], skip: usize, tail: usize, pad: usize, t: usize) -> u8
+    requires { ⌜ MixedAsked (now raw) (now outputs) skip tail pad t ⌝ }
+    ensures { λ r. ⌜ ((tail ≤ t → t < pad → r ≡ 0) × (t < tail → r ≡ (getD (now (raw .entry)) (skip + t) 0 + getD (now (outputs .entry)) t 0) % 2) × (pad ≤ t → r ≡ (getD (now (raw .entry)) (skip + t) 0 + getD (now (outputs .entry)) t 0) % 2)) ⌝ }
+{
+    let scrambled = (raw[skip + t] + outputs[t]) % 2;
+    if t < tail {
+        return scrambled;
+    }
+    if t < pad {
+        return 0;
+    }
+    scrambled
+}
+
+// All inputs from `start` on, written from place `to` on.
+fn mix(
+    line: &mut [u8],
+    raw: &[u8],
+    outputs: &[u8],
+    to: usize,
+    skip: usize,
+    tail: usize,
+    pad: usize,
+    count: usize,
+)
+    requires { ⌜ MixAsked (now line) (now raw) (now outputs) to skip tail pad count ⌝ }
+    ensures { λ _. ⌜ Filled 0 to (λ t. mixedBit (λ j. getD (now (raw .entry)) (skip + j) 0) (λ j. getD (now (outputs .entry)) j 0) tail pad t) count (now (line .entry)) (now (line .exit)) ⌝ }
+{
+    let mut t: usize = 0;
+    while t < count {
+        line[to + t] = mixed(raw, outputs, skip, tail, pad, t);
+        t += 1;
+    }
+}
+
+// The encoders' inputs from data bit `start` on, written from place `to` on.
+fn scrambled_inputs(
+    line: &mut [u8],
+    payload: &[u8],
+    bytes: usize,
+    encoders: usize,
+    seed: u8,
+    to: usize,
+    start: usize,
+    count: usize,
+)
+    requires { ⌜ ScrambledAsked (now line) (now payload) bytes encoders seed to start count ⌝ }
+    ensures { λ _. ⌜ Filled 0 to (λ t. coderInput (payloadBit (now (payload .entry))) bytes encoders seed (start + t)) count (now (line .entry)) (now (line .exit)) ⌝ }
+{
+    let mut raw = [0u8; 2184];
+    let mut outputs = [0u8; 2172];
+    let skip = start % 8;
+    data_bits(&mut raw, payload, bytes, start / 8, (skip + count + 7) / 8);
+    scrambler_outputs(&mut outputs, jump(seed, start), count);
+    let tail = below_mark(16 + 8 * bytes, start, count);
+    let pad = below_mark(16 + 8 * bytes + 6 * encoders, start, count);
+    mix(line, &raw, &outputs, to, skip, tail, pad, count);
+}
+
+// Zeros at the first places.
+fn clear(line: &mut [u8], count: usize)
+    requires { ⌜ count ≤ length (now line) ⌝ }
+    ensures { λ _. ⌜ Filled 0 0 (λ t. 0) count (now (line .entry)) (now (line .exit)) ⌝ }
+{
+    let mut t: usize = 0;
+    while t < count {
+        line[t] = 0;
+        t += 1;
+    }
+}
+
+// The line of inputs, six zeros for each encoder before the frame's first, from place `first` on.
+pub fn coder_inputs(
+    line: &mut [u8],
+    payload: &[u8],
+    bytes: usize,
+    encoders: usize,
+    seed: u8,
+    first: usize,
+    count: usize,
+)
+    requires { ⌜ InputsAsked (now line) (now payload) bytes encoders seed first count ⌝ }
+    ensures { λ _. ⌜ Filled 0 0 (λ j. withHistory (coderInput (payloadBit (now (payload .entry))) bytes encoders seed) encoders (first + j)) count (now (line .entry)) (now (line .exit)) ⌝ }
+{
+    let head = below_mark(6 * encoders, first, count);
+    let start = first + head - 6 * encoders;
+    clear(line, head);
+    scrambled_inputs(
+        line,
+        payload,
+        bytes,
+        encoders,
+        seed,
+        head,
+        start,
+        count - head,
+    );
+}
