@@ -1,0 +1,3 @@
+pub mod SourceLaws
+pub mod HalfLaws
+pub mod CallLaws

@@ -1,0 +1,15 @@
+use native.Mathlib.Omega.{arith}
+use Rattle.chain.specs.Parser.{axisBits}
+use Rattle.coding.proofs.sources.axis_bits.Statement.{statement}
+use Rattle.coding.proofs.sources.axis_bits.Tie as tie
+
+returns : tie.Need-returns
+unfolding axisBits
+returns c = omega arith
+
+returns-2 : tie.Need-returns-2
+unfolding axisBits
+returns-2 c = omega arith
+
+pub axis-bits-spec : {M : Type 1} → statement M
+axis-bits-spec = tie.close (tie.spec returns returns-2)

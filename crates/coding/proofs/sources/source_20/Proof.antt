@@ -1,0 +1,83 @@
+use native.Mathlib.Omega.{arith}
+use borrow.Author.Needs.{needs}
+use Rattle.coding.proofs.SourceLaws.{source-20-1, source-20-2, source-20-4, source-20-6, block-most, six-left}
+use Rattle.coding.proofs.sources.source_20.Statement.{statement}
+use Rattle.coding.proofs.sources.source_20.Tie as tie
+
+returns : tie.Need-returns
+returns c = source-20-1 _ _ (c .if1 .taken) (c .before .pre .inside)
+
+mul-result : tie.Need-mul-result
+mul-result c = search needs
+
+add-result : tie.Need-add-result
+add-result c = search needs
+
+mul-result-2 : tie.Need-mul-result-2
+mul-result-2 c = search needs
+
+add-result-2 : tie.Need-add-result-2
+add-result-2 c = search needs
+
+returns-2 : tie.Need-returns-2
+returns-2 c = source-20-2 _ _ (c .if2 .taken) (c .before .before .pre .inside)
+
+mul-result-3 : tie.Need-mul-result-3
+mul-result-3 c = search needs
+
+add-result-3 : tie.Need-add-result-3
+add-result-3 c = let a = c .before .before .before in omega (arith, block-most 20 (a .args .bits) tt (a .pre .known-bits))
+
+add-result-4 : tie.Need-add-result-4
+add-result-4 c = search needs
+
+mul-result-4 : tie.Need-mul-result-4
+mul-result-4 c = search needs
+
+add-result-5 : tie.Need-add-result-5
+add-result-5 c = search needs
+
+returns-3 : tie.Need-returns-3
+returns-3 c = source-20-4 _ _ (c .if3 .taken) (c .before .before .before .pre .inside)
+
+mul-result-5 : tie.Need-mul-result-5
+mul-result-5 c = search needs
+
+add-result-6 : tie.Need-add-result-6
+add-result-6 c = let a = c .before .before .before in omega (arith, block-most 20 (a .args .bits) tt (a .pre .known-bits))
+
+add-result-7 : tie.Need-add-result-7
+add-result-7 c = search needs
+
+mul-result-6 : tie.Need-mul-result-6
+mul-result-6 c = search needs
+
+add-result-8 : tie.Need-add-result-8
+add-result-8 c = search needs
+
+returns-4 : tie.Need-returns-4
+returns-4 c = let a = c .before .before .before in
+    source-20-6 _ _ (six-left (a .args .bits) (a .pre .known-bits) (c .before .before .if1 .left) (c .before .if2 .left) (c .if3 .left)) (a .pre .inside)
+
+pub source-20-spec : {M : Type 1} → statement M
+source-20-spec =
+    tie.close
+    (tie.spec
+    mul-result
+    add-result
+    returns
+    mul-result-2
+    add-result-2
+    returns-2
+    mul-result-3
+    add-result-3
+    add-result-4
+    mul-result-4
+    add-result-5
+    returns-3
+    mul-result-5
+    add-result-6
+    add-result-7
+    mul-result-6
+    add-result-8
+    returns-4)
