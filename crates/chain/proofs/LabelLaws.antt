@@ -2,13 +2,14 @@
 -- Assumes of the plan that it fits.
 use mathlib.Core.Path.{_≡_, _∙_, refl, sym, ap₂}
 use mathlib.Core.Logic.{⊎-elim}
-use Prim.Native.Nat.{ℕ, zero, suc, _+_, _-_, _*_, _^_, _<_, _≤_}
+use Prim.Native.Nat.{ℕ, zero, suc, _+_, _-_, _*_, _/_, _^_, _<_, _≤_}
 use native.Mathlib.Nat.{div-add-mod', mul-le-mul-right, suc-mul, pow-zero, pow-suc}
 use native.Mathlib.Omega.{arith}
 use borrow.Author.Tests.{lt-ltb, le-ltb}
+use Rattle.laws.specs.Claim.{Claim, _under_, each, Holds, sound}
 use Rattle.laws.proofs.Search.{lt-or-le}
 use Rattle.chain.specs.declared.plan.Plan.{Plan}
-use Rattle.chain.specs.Plan.{Fits}
+use Rattle.chain.specs.Plan.{widths, bitCounts, streamCounts, carriersOf, Fits}
 use Rattle.chain.specs.Encoder.{withHistory}
 use Rattle.chain.specs.Parser.{axisBits}
 use Rattle.chain.specs.Labels.{share, codedBit, streamBit, labelBit, written, halfLabel, halvesOf}
@@ -46,7 +47,20 @@ half-below p m t h l =
     let s : ℕ = axisBits (p .bits) in
     omega (arith, div-add-mod' (p .block) s, rw suc-mul at (mul-le-mul-right s h))
 
+abbrev halvesClaim : Claim
+halvesClaim = each widths λ w. each bitCounts λ b. each streamCounts λ S. S * (carriersOf w * b / axisBits b) under 865
+
+few-halves : Holds halvesClaim
+unfolding axisBits
+few-halves = sound halvesClaim tt
+
 module _ (p : Plan) (fits : Fits p) where
+  -- the half labels of a symbol: at most four streams' two of each of 108 carriers
+  pub halves-most : p .streams * halvesOf p ≤ 864
+  halves-most =
+      rw (fits .block-is, fits .carriers-is)
+      (omega (arith, few-halves (p .width) (fits .width) (p .bits) (fits .bits) (p .streams) (fits .streams)))
+
   same-line : (x y : ℕ → ℕ) (n : ℕ) → AgreeAt p x y n
       → (e : ℕ) → e < p .dbps + 6 * p .encoders → withHistory x (p .encoders) (n * p .dbps + e) ≡ withHistory y (p .encoders) (n * p .dbps + e)
   unfolding withHistory

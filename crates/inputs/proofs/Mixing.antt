@@ -3,9 +3,11 @@ use mathlib.Core.Path.{_≡_, _∙_, sym, ap}
 use mathlib.Core.List.{List}
 use Prim.Native.Nat.{ℕ, _+_, _-_, _*_, _/_, _%_, _<_, _≤_, min}
 use native.Mathlib.Omega.{arith}
+use native.Mathlib.Nat.{zero-add, add-assoc}
+use lib.Bits.{bitXor}
 use lib.ListN.{getD}
 use borrow.Author.Tests.{lt-ltb, le-ltb}
-use Rattle.laws.specs.Claim.{Claim, _under_, each, Holds, sound}
+use Rattle.laws.specs.Claim.{Claim, _is_, _under_, each, upTo, Holds, sound}
 use Rattle.laws.specs.Filled.{Filled}
 use Rattle.laws.proofs.Filling.{fill-at, fill-from, fill-as, fill-join, fill-end}
 use Rattle.laws.proofs.Search.{parts}
@@ -39,14 +41,72 @@ module _ (raw outputs : ℕ → ℕ) (tail pad t : ℕ) where
   mixed-after : tail ≤ pad → pad ≤ t → mixedBit raw outputs tail pad t ≡ (raw t + outputs t) % 2
   mixed-after o h = let k : tail ≤ t = omega arith in simp (le-ltb t tail, le-ltb t pad)
 
-  -- a number with these values is the mixed bit
-  pub mixed-is : (r : ℕ) → tail ≤ pad → (tail ≤ t → t < pad → r ≡ 0)
-      → (t < tail → r ≡ (raw t + outputs t) % 2) → (pad ≤ t → r ≡ (raw t + outputs t) % 2) → r ≡ mixedBit raw outputs tail pad t
-  mixed-is r o in-tail before after =
-      parts tail pad t
-      (λ h. before h ∙ sym (mixed-before h))
-      (λ h k. in-tail h k ∙ sym (mixed-tail h k))
-      (λ h. after h ∙ sym (mixed-after o h))
+-- the xor of two bits is their sum modulo 2
+abbrev xorClaim : Claim
+xorClaim = upTo 2 λ a. upTo 2 λ b. bitXor a b is (a + b) % 2
+
+xors : Holds xorClaim
+xors = sound xorClaim tt
+
+-- the places and counts of the three parts: up to the tail, the tail, and what is after it
+pub record ThreeParts (to skip tail pad count n₁ to₂ n₂ to₃ at₃ from₃ n₃ : ℕ) : Type 0 where
+  pub up-to-tail : n₁ ≡ tail
+  pub tail-from : to₂ ≡ to + tail
+  pub tail-long : n₂ ≡ pad - tail
+  pub rest-from : to₃ ≡ to + pad
+  pub rest-data : at₃ ≡ skip + pad
+  pub rest-outputs : from₃ ≡ pad
+  pub rest-long : n₃ ≡ count - pad
+
+module _ (raw outputs : List ℕ) (skip tail pad count : ℕ) (ordered : tail ≤ pad) (ends : pad ≤ count)
+    (raw-bits : (j : ℕ) → getD raw j 0 < 2) (out-bits : (j : ℕ) → j < count → getD outputs j 0 < 2) where
+  abbrev rawAt : ℕ → ℕ
+  rawAt j = getD raw (skip + j) 0
+
+  abbrev outAt : ℕ → ℕ
+  outAt j = getD outputs j 0
+
+  abbrev mixedAt : ℕ → ℕ
+  mixedAt t = mixedBit rawAt outAt tail pad t
+
+  xor-is : (t : ℕ) → t < count → bitXor (rawAt t) (outAt t) ≡ (rawAt t + outAt t) % 2
+  xor-is t h = xors (rawAt t) (raw-bits (skip + t)) (outAt t) (out-bits t h)
+
+  before : (t : ℕ) → t < tail → bitXor (getD raw (skip + t) 0) (getD outputs (0 + t) 0) ≡ mixedAt t
+  before t h = rw (zero-add t) (xor-is t (omega arith) ∙ sym (mixed-before rawAt outAt tail pad t h))
+
+  after : (t : ℕ) → t < count - pad → bitXor (getD raw (skip + pad + t) 0) (getD outputs (pad + t) 0) ≡ mixedAt (tail + (pad - tail) + t)
+  after t h =
+      let e : tail + (pad - tail) + t ≡ pad + t = omega arith in
+      rw (e, add-assoc skip pad t) (xor-is (pad + t) (omega arith) ∙ sym (mixed-after rawAt outAt tail pad (pad + t) ordered (omega arith)))
+
+  -- bits up to the tail, zeros in it and bits after it are the mixed bits
+  joined : (to : ℕ) (line₀ line₁ line₂ line₃ : List ℕ)
+      → Filled 0 to (λ t. bitXor (getD raw (skip + t) 0) (getD outputs (0 + t) 0)) tail line₀ line₁
+      → Filled 0 (to + tail) (λ t. 0) (pad - tail) line₁ line₂
+      → Filled 0 (to + pad) (λ t. bitXor (getD raw (skip + pad + t) 0) (getD outputs (pad + t) 0)) (count - pad) line₂ line₃
+      → Filled 0 to (λ t. mixedBit (λ j. getD raw (skip + j) 0) (λ j. getD outputs j 0) tail pad t) count line₀ line₃
+  joined to line₀ line₁ line₂ line₃ first middle last =
+      fill-end 0 to mixedAt (omega arith)
+      (fill-join 0 to mixedAt (tail + (pad - tail)) (count - pad) line₀ line₂ line₃
+      (fill-join 0 to mixedAt tail (pad - tail) line₀ line₁ line₂
+      (fill-as _ _ _ mixedAt _ _ _ before first)
+      (fill-as _ _ _ (λ t. mixedAt (tail + t)) _ _ _ (λ t h. sym (mixed-tail rawAt outAt tail pad (tail + t) (omega arith) (omega arith))) middle))
+      (fill-from 0 (λ t. mixedAt (tail + (pad - tail) + t)) (omega arith)
+      (fill-as _ _ _ (λ t. mixedAt (tail + (pad - tail) + t)) _ _ _ after last)))
+
+  -- the same, where three calls were made with these places and counts
+  pub mixed-parts : (to : ℕ) {n₁ to₂ n₂ to₃ at₃ from₃ n₃ : ℕ} {line₀ line₁ line₂ line₃ : List ℕ}
+      → Filled 0 to (λ t. bitXor (getD raw (skip + t) 0) (getD outputs (0 + t) 0)) n₁ line₀ line₁
+      → Filled 0 to₂ (λ t. 0) n₂ line₁ line₂
+      → Filled 0 to₃ (λ t. bitXor (getD raw (at₃ + t) 0) (getD outputs (from₃ + t) 0)) n₃ line₂ line₃
+      → ThreeParts to skip tail pad count n₁ to₂ n₂ to₃ at₃ from₃ n₃
+      → Filled 0 to (λ t. mixedBit (λ j. getD raw (skip + j) 0) (λ j. getD outputs j 0) tail pad t) count line₀ line₃
+  mixed-parts to {line₀ = line₀} {line₁ = line₁} {line₂ = line₂} {line₃ = line₃} first middle last p =
+      joined to line₀ line₁ line₂ line₃
+      (rw (p .up-to-tail) at first)
+      (rw (p .tail-from, p .tail-long) at middle)
+      (rw (p .rest-from, p .rest-data, p .rest-outputs, p .rest-long) at last)
 
 -- the mixed bit is the encoders' input where data bit, output and tail are right
 pub mixed-input : (v raw outputs : ℕ → ℕ) (bytes encoders seed start count tail pad t : ℕ)

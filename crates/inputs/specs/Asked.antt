@@ -38,14 +38,14 @@ pub record DataFilled (payload : List ℕ) (bytes from count : ℕ) (raw₀ raw 
 abbrev pub mixedBit : (raw outputs : ℕ → ℕ) (tail pad t : ℕ) → ℕ
 mixedBit raw outputs tail pad t = cond (both (not (ltb t tail)) (ltb t pad)) 0 ((raw t + outputs t) % 2)
 
-pub record MixedAsked (raw outputs : List ℕ) (skip tail pad t : ℕ) : Type 0 where
-  pub near : skip + t < length raw
-  pub skips : skip < 8
-  pub out-near : t < length outputs
-  pub few : t < 2172
-  pub ordered : tail ≤ pad
-  pub raw-bit : getD raw (skip + t) 0 < 2
-  pub out-bit : getD outputs t 0 < 2
+-- data bits from `at` on and scrambler outputs from `from` on
+pub record AddAsked (line raw outputs : List ℕ) (to at from count : ℕ) : Type 0 where
+  pub room : to + count ≤ length line
+  pub few : to + count ≤ 2172
+  pub near : at + count ≤ length raw
+  pub at-few : at ≤ 2184
+  pub out-near : from + count ≤ length outputs
+  pub from-few : from ≤ 2172
 
 pub record MixAsked (line raw outputs : List ℕ) (to skip tail pad count : ℕ) : Type 0 where
   pub room : to + count ≤ length line
@@ -54,6 +54,7 @@ pub record MixAsked (line raw outputs : List ℕ) (to skip tail pad count : ℕ)
   pub skips : skip < 8
   pub out-near : count ≤ length outputs
   pub ordered : tail ≤ pad
+  pub ends : pad ≤ count
   pub raw-bits : (j : ℕ) → getD raw j 0 < 2
   pub out-bits : (j : ℕ) → j < count → getD outputs j 0 < 2
 

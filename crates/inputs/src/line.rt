@@ -3,30 +3,47 @@ use crate::bits::below_mark;
 use crate::bits::data_bits;
 use scrambler::outputs::scrambler_outputs;
 use scrambler::register::jump;
-ghost use mathlib.Core.Path.{_≡_};
-ghost use Prim.Native.Nat.{_+_, _%_, _<_, _≤_};
+ghost use Prim.Native.Nat.{_+_, _≤_};
+ghost use lib.Bits.{bitXor};
 ghost use lib.ListN.{length, getD};
 ghost use Rattle.laws.specs.Filled.{Filled};
 ghost use Rattle.chain.specs.DataBits.{payloadBit, coderInput};
 ghost use Rattle.chain.specs.Encoder.{withHistory};
-ghost use Rattle.inputs.specs.Asked.{InputsAsked, MixedAsked, MixAsked, ScrambledAsked, mixedBit};
+ghost use Rattle.inputs.specs.Asked.{InputsAsked, AddAsked, MixAsked, ScrambledAsked, mixedBit};
 
-// Input t: the tail, from `tail` to `pad`, is zero, all else is scrambled.
-fn mixed(raw: &[u8], outputs: &[u8], skip: usize, tail: usize, pad: usize, t: usize) -> u8
-    requires { ⌜ MixedAsked (now raw) (now outputs) skip tail pad t ⌝ }
-    ensures { λ r. ⌜ ((tail ≤ t → t < pad → r ≡ 0) × (t < tail → r ≡ (getD (now (raw .entry)) (skip + t) 0 + getD (now (outputs .entry)) t 0) % 2) × (pad ≤ t → r ≡ (getD (now (raw .entry)) (skip + t) 0 + getD (now (outputs .entry)) t 0) % 2)) ⌝ }
+// Data bits from one place on, and on each a scrambler output from another place on.
+fn add_outputs(
+    line: &mut [u8],
+    raw: &[u8],
+    outputs: &[u8],
+    to: usize,
+    at: usize,
+    from: usize,
+    count: usize,
+)
+    requires { ⌜ AddAsked (now line) (now raw) (now outputs) to at from count ⌝ }
+    ensures { λ _. ⌜ Filled 0 to (λ t. bitXor (getD (now (raw .entry)) (at + t) 0) (getD (now (outputs .entry)) (from + t) 0)) count (now (line .entry)) (now (line .exit)) ⌝ }
 {
-    let scrambled = (raw[skip + t] + outputs[t]) % 2;
-    if t < tail {
-        return scrambled;
+    let mut t: usize = 0;
+    while t < count {
+        line[to + t] = raw[at + t] ^ outputs[from + t];
+        t += 1;
     }
-    if t < pad {
-        return 0;
-    }
-    scrambled
 }
 
-// All inputs from `start` on, written from place `to` on.
+// Zeros from a place on.
+fn clear(line: &mut [u8], to: usize, count: usize)
+    requires { ⌜ (to + count ≤ length (now line)) × (to + count ≤ 2172) ⌝ }
+    ensures { λ _. ⌜ Filled 0 to (λ t. 0) count (now (line .entry)) (now (line .exit)) ⌝ }
+{
+    let mut t: usize = 0;
+    while t < count {
+        line[to + t] = 0;
+        t += 1;
+    }
+}
+
+// All inputs, written from place `to` on: the tail, from `tail` to `pad`, is zero, all else is scrambled.
 fn mix(
     line: &mut [u8],
     raw: &[u8],
@@ -40,11 +57,9 @@ fn mix(
     requires { ⌜ MixAsked (now line) (now raw) (now outputs) to skip tail pad count ⌝ }
     ensures { λ _. ⌜ Filled 0 to (λ t. mixedBit (λ j. getD (now (raw .entry)) (skip + j) 0) (λ j. getD (now (outputs .entry)) j 0) tail pad t) count (now (line .entry)) (now (line .exit)) ⌝ }
 {
-    let mut t: usize = 0;
-    while t < count {
-        line[to + t] = mixed(raw, outputs, skip, tail, pad, t);
-        t += 1;
-    }
+    add_outputs(line, raw, outputs, to, skip, 0, tail);
+    clear(line, to + tail, pad - tail);
+    add_outputs(line, raw, outputs, to + pad, skip + pad, pad, count - pad);
 }
 
 // The encoders' inputs from data bit `start` on, written from place `to` on.
@@ -71,18 +86,6 @@ fn scrambled_inputs(
     mix(line, &raw, &outputs, to, skip, tail, pad, count);
 }
 
-// Zeros at the first places.
-fn clear(line: &mut [u8], count: usize)
-    requires { ⌜ count ≤ length (now line) ⌝ }
-    ensures { λ _. ⌜ Filled 0 0 (λ t. 0) count (now (line .entry)) (now (line .exit)) ⌝ }
-{
-    let mut t: usize = 0;
-    while t < count {
-        line[t] = 0;
-        t += 1;
-    }
-}
-
 // The line of inputs, six zeros for each encoder before the frame's first, from place `first` on.
 pub fn coder_inputs(
     line: &mut [u8],
@@ -98,7 +101,7 @@ pub fn coder_inputs(
 {
     let head = below_mark(6 * encoders, first, count);
     let start = first + head - 6 * encoders;
-    clear(line, head);
+    clear(line, 0, head);
     scrambled_inputs(
         line,
         payload,

@@ -1,20 +1,23 @@
 use mathlib.Core.Path.{refl}
 use Prim.Native.Nat.{_-_, _≤_}
 use native.Mathlib.Omega.{arith}
-use borrow.Author.Needs.{needs}
 use Rattle.laws.specs.Filled.{Filled}
 use Rattle.laws.proofs.Filling.{fill-none, fill-more, fill-end}
+use borrow.Author.Needs.{needs}
 use Rattle.inputs.proofs.line.clear.Statement.{statement}
 use Rattle.inputs.proofs.line.clear.Tie as tie
 
 abbrev Inv-loop : tie.InvT-loop
-Inv-loop line₀ count t₀ line t = (t ≤ count) × Filled 0 0 (λ k. 0) t line₀ line
+Inv-loop line₀ to count t₀ line t = (t ≤ count) × Filled 0 to (λ k. 0) t line₀ line
 
 abbrev μ-loop : tie.MeasureT-loop
-μ-loop line₀ count t₀ line t = count - t
+μ-loop line₀ to count t₀ line t = count - t
 
 loop-holds : tie.Need-loop-holds Inv-loop μ-loop
 loop-holds c = (omega arith, fill-none _ _ _ _)
+
+add-line : tie.Need-add-line Inv-loop μ-loop
+add-line c = search needs
 
 slice-write-line : tie.Need-slice-write-line Inv-loop μ-loop
 slice-write-line c = search needs
@@ -41,6 +44,7 @@ clear-spec =
     Inv-loop
     μ-loop
     loop-holds
+    add-line
     slice-write-line
     add-t
     loop-less

@@ -1,78 +1,56 @@
-use Prim.Native.Nat.{_+_, _-_, _≤_}
 use native.Mathlib.Omega.{arith}
-use lib.ListN.{getD}
 use denote.Ref.{now}
+use Rattle.inputs.proofs.Mixing.{mixed-parts}
 use borrow.Author.Needs.{needs}
-use Rattle.laws.specs.Filled.{Filled}
-use Rattle.laws.proofs.Filling.{fill-none, fill-more, fill-end}
-use Rattle.inputs.specs.Asked.{mixedBit}
-use Rattle.inputs.proofs.Mixing.{mixed-is}
 use Rattle.inputs.proofs.line.mix.Statement.{statement}
 use Rattle.inputs.proofs.line.mix.Tie as tie
 
-abbrev Inv-loop : tie.InvT-loop
-Inv-loop line₀ raw outputs to skip tail pad count t₀ line t =
-    (t ≤ count) × Filled 0 to (λ k. mixedBit (λ j. getD raw (skip + j) 0) (λ j. getD outputs j 0) tail pad k) t line₀ line
+returns : tie.Need-returns
+returns c =
+    let start = c .before .before .before .before .before .before .before .before .before .before .before .before .before .before .before in
+    let a = start .args in
+    mixed-parts (now (a .raw)) (now (a .outputs)) (a .skip) (a .tail) (a .pad) (a .count) (start .pre .ordered) (start .pre .ends)
+    (start .pre .raw-bits) (start .pre .out-bits) (a .to)
+    (c .before .before .before .before .before .before .before .before .before .before .add-outputs .ensures) (c .before .before .before .before .before .before .clear .ensures) (c .before .before .add-outputs2 .ensures) (omega arith)
 
-abbrev μ-loop : tie.MeasureT-loop
-μ-loop line₀ raw outputs to skip tail pad count t₀ line t = count - t
+add-outputs-requires : tie.Need-add-outputs-requires
+add-outputs-requires c κs = search needs
 
-loop-holds : tie.Need-loop-holds Inv-loop μ-loop
-loop-holds c = (omega arith, fill-none _ _ _ _)
+add-clear : tie.Need-add-clear
+add-clear c = search needs
 
-mixed-requires : tie.Need-mixed-requires Inv-loop μ-loop
-mixed-requires c κs =
-    let asked = c .before .before .before .before .before .pre in
-    record {
-      near = omega arith;
-      skips = omega arith;
-      out-near = omega arith;
-      few = omega arith;
-      ordered = omega arith;
-      raw-bit = asked .raw-bits _;
-      out-bit = asked .out-bits _ (omega arith);
-    }
+sub-clear : tie.Need-sub-clear
+sub-clear c = search needs
 
-add-line : tie.Need-add-line Inv-loop μ-loop
-add-line c = search needs
+clear-requires : tie.Need-clear-requires
+clear-requires c κs = search needs
 
-slice-write-line : tie.Need-slice-write-line Inv-loop μ-loop
-slice-write-line c = search needs
+add-add-outputs : tie.Need-add-add-outputs
+add-add-outputs c = search needs
 
-add-t : tie.Need-add-t Inv-loop μ-loop
-add-t c = search needs
+add-add-outputs-2 : tie.Need-add-add-outputs-2
+add-add-outputs-2 c = search needs
 
-loop-less : tie.Need-loop-less Inv-loop μ-loop
-loop-less c = search needs
+sub-add-outputs : tie.Need-sub-add-outputs
+sub-add-outputs c = search needs
 
-loop-again : tie.Need-loop-again Inv-loop μ-loop
-loop-again c =
-    let said = c .mixed .ensures in
-    let a = c .before .before .before .before .before .before .args in (
-      search needs,
-      fill-more _ _ _ _ _ _ _ _ (omega arith) (omega arith)
-          (mixed-is (λ j. getD (now (a .raw)) (a .skip + j) 0) (λ j. getD (now (a .outputs)) j 0) _ _ _ _ (omega arith) (said .0) (said .1) (said .2))
-          (c .before .before .loop .inv .1),
-    )
+add-outputs-requires-2 : tie.Need-add-outputs-requires-2
+add-outputs-requires-2 c κs = search needs
 
-same-length : tie.Need-same-length Inv-loop μ-loop
+same-length : tie.Need-same-length
 same-length c = search needs
-
-returns : tie.Need-returns Inv-loop μ-loop
-returns c = fill-end _ _ _ (omega arith) (c .before .loop .inv .1)
 
 pub mix-spec : {M : Type 1} → statement M
 mix-spec =
     tie.close
     (tie.spec
-    Inv-loop
-    μ-loop
-    loop-holds
-    mixed-requires
-    add-line
-    slice-write-line
-    add-t
-    loop-less
-    loop-again
+    add-outputs-requires
+    add-clear
+    sub-clear
+    clear-requires
+    add-add-outputs
+    add-add-outputs-2
+    sub-add-outputs
+    add-outputs-requires-2
     same-length
     returns)

@@ -80,6 +80,7 @@ mix-requires c κs =
       skips = omega arith;
       out-near = omega arith;
       ordered = omega arith;
+      ends = omega arith;
       raw-bits = out .before .before .before .before .data-bits .ensures .bits;
       out-bits = λ j h. rw (fill-at _ _ (out .scrambler-outputs .ensures) j h) (scrambler-bit _ j);
     }
