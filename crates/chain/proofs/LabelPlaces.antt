@@ -2,8 +2,10 @@
 -- Assumes nothing.
 use mathlib.Core.Path.{_≡_, _∙_, sym, ap}
 use Prim.Native.Nat.{ℕ, _<_}
+use native.Mathlib.Nat.{mod-lt, div-lt-iff-lt-mul}
+use Rattle.laws.specs.Claim.{Claim, _under_, each, Holds, sound}
 use Rattle.chain.specs.declared.plan.Plan.{Plan}
-use Rattle.chain.specs.Plan.{Fits}
+use Rattle.chain.specs.Plan.{bitCounts, Fits}
 use Rattle.chain.specs.Parser.{axisBits, encoderOf, indexOf, bitOf}
 use Rattle.chain.specs.Interleaver.{place, source}
 use Rattle.chain.specs.Labels.{share, streamBit, labelBit}
@@ -11,9 +13,18 @@ use Rattle.chain.specs.Statements.{Parses, Interleaves, codedStream, cod
 use Rattle.chain.proofs.ParserLaws.{parses}
 use Rattle.chain.proofs.InterleaverLaws.{interleaves-plan}
 
+abbrev bitsClaim : Claim
+bitsClaim = each bitCounts λ b. 0 under b
+
+some-bits : Holds bitsClaim
+some-bits = sound bitsClaim tt
+
 module _ (p : Plan) (f : Fits p) where
   parsing : Parses p
   parsing = parses p f
+
+  bits-some : 0 < p .bits
+  bits-some = some-bits (p .bits) (f .bits)
 
   -- every coded bit of a symbol is in a label place of one stream, and the place gives it back
   pub label-of-coded : (j y : ℕ) → j < p .encoders → y < share p → LabelOfCoded p j y
@@ -22,9 +33,12 @@ module _ (p : Plan) (f : Fits p) where
       let t : Interleaves (p .width) (p .bits) (p .block) (codedStream p y) = interleaves-plan p f (codedStream p y) h in
       let bit = bitOf (axisBits (p .bits)) (p .streams) (p .encoders) j y in
       let bit-lt : bit < p .block = parsing .bit-lt j y hj hy in
+      let place-lt : codedPlace p j y < p .block = t .place-lt bit bit-lt in
       record {
         stream-lt = h;
-        place-lt = t .place-lt bit bit-lt;
+        place-lt = place-lt;
+        carrier-lt = div-lt-iff-lt-mul {k = p .bits} bits-some .1 (rw (f .block-is) at place-lt);
+        bit-lt = mod-lt (codedPlace p j y) bits-some;
         encoder-back = ap (encoderOf (axisBits (p .bits)) (p .encoders)) (t .source-place bit bit-lt) ∙ parsing .encoder-back j y hj;
         index-back =
             ap (indexOf (axisBits (p .bits)) (p .streams) (p .encoders) (codedStream p y)) (t .source-place bit bit-lt) ∙ parsing .index-back j y hj;

@@ -1,6 +1,6 @@
 -- What is proved of the chain, in plain words: every coded bit of a symbol stands in exactly one label place of one stream; where a symbol looks.
 use mathlib.Core.Path.{_≡_}
-use Prim.Native.Nat.{ℕ, _+_, _*_, _<_, _≤_}
+use Prim.Native.Nat.{ℕ, _+_, _*_, _/_, _%_, _<_, _≤_}
 use Rattle.chain.specs.declared.plan.Plan.{Plan}
 use Rattle.chain.specs.Parser.{axisBits, encoderOf, indexOf, streamOf, bitOf}
 use Rattle.chain.specs.Interleaver.{place, source}
@@ -42,10 +42,12 @@ placeEncoder p i r = encoderOf (axisBits (p .bits)) (p .encoders) (source (p .wi
 abbrev pub placeIndex : (p : Plan) (i r : ℕ) → ℕ
 placeIndex p i r = indexOf (axisBits (p .bits)) (p .streams) (p .encoders) i (source (p .width) (p .bits) i r)
 
--- every coded bit of a symbol is in a label place of one stream, and the place gives it back
+-- every coded bit of a symbol is in a label place of one stream, and the place gives it back; place r is bit r mod B of carrier floor(r / B)
 pub record LabelOfCoded (p : Plan) (j y : ℕ) : Type 0 where
   pub stream-lt : codedStream p y < p .streams
   pub place-lt : codedPlace p j y < p .block
+  pub carrier-lt : codedPlace p j y / p .bits < p .carriers
+  pub bit-lt : codedPlace p j y % p .bits < p .bits
   pub encoder-back : placeEncoder p (codedStream p y) (codedPlace p j y) ≡ j
   pub index-back : placeIndex p (codedStream p y) (codedPlace p j y) ≡ y
 

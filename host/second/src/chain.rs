@@ -96,27 +96,7 @@ fn part(kept: &[u8], share: usize, symbol: usize) -> Vec<u8> {
 mod tests {
     use super::*;
     use crate::rates::{block, data_bits_per_symbol, data_carriers};
-
-    fn bits(text: &str) -> Vec<u8> {
-        text.bytes()
-            .filter(|c| *c != b' ')
-            .map(|c| c - b'0')
-            .collect()
-    }
-
-    fn settings(mcs: u32, width: u32, length: u32, seed: u32) -> Settings {
-        Settings {
-            width,
-            mcs,
-            format: 0,
-            length,
-            seed,
-            smoothing: true,
-            not_sounding: true,
-            aggregation: false,
-            short_guard: false,
-        }
-    }
+    use crate::samples::{bits, settings};
 
     /// Byte j is 37·j + 11 modulo 256.
     fn some_bytes(count: u32) -> Vec<u8> {

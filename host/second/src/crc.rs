@@ -35,13 +35,7 @@ pub fn crc8(bits: &[u8]) -> [u8; 8] {
 #[cfg(test)]
 mod tests {
     use super::*;
-
-    fn bits(text: &str) -> Vec<u8> {
-        text.bytes()
-            .filter(|c| *c != b' ')
-            .map(|c| c - b'0')
-            .collect()
-    }
+    use crate::samples::bits;
 
     /// The formula of EWC 3.6.3 by long division: M(D)·D^8 modulo G(D). Ones in
     /// the register at the start are the first eight bits turned over.

@@ -60,28 +60,8 @@ pub fn data_bits(s: &Settings, payload: &[u8]) -> Result<Vec<u8>, u32> {
 mod tests {
     use super::*;
     use crate::rates::symbol_count;
+    use crate::samples::{bits, settings};
     use crate::scrambler::scrambler_sequence;
-
-    fn bits(text: &str) -> Vec<u8> {
-        text.bytes()
-            .filter(|c| *c != b' ')
-            .map(|c| c - b'0')
-            .collect()
-    }
-
-    fn settings(mcs: u32, width: u32, length: u32, seed: u32) -> Settings {
-        Settings {
-            width,
-            mcs,
-            format: 0,
-            length,
-            seed,
-            smoothing: true,
-            not_sounding: true,
-            aggregation: false,
-            short_guard: false,
-        }
-    }
 
     fn some_bytes(count: u32) -> Vec<u8> {
         let mut state = 3u32;

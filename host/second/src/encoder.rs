@@ -67,21 +67,7 @@ mod tests {
     use super::*;
     use crate::data_bits::data_bits;
     use crate::rates::{data_bits_per_symbol, encoders};
-    use crate::settings::Settings;
-
-    fn settings(mcs: u32, width: u32, length: u32, seed: u32) -> Settings {
-        Settings {
-            width,
-            mcs,
-            format: 0,
-            length,
-            seed,
-            smoothing: true,
-            not_sounding: true,
-            aggregation: false,
-            short_guard: false,
-        }
-    }
+    use crate::samples::settings;
 
     fn some_bits(count: usize) -> Vec<u8> {
         let mut state = 11u32;

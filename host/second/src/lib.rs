@@ -34,6 +34,8 @@ pub mod parser;
 pub mod puncture;
 pub mod rates;
 pub mod refusal;
+#[cfg(test)]
+mod samples;
 pub mod scrambler;
 pub mod settings;
 pub mod sig;

@@ -109,24 +109,11 @@ fn narrow(number: u64) -> u32 {
 #[cfg(test)]
 mod tests {
     use super::*;
-
-    fn settings(mcs: u32, width: u32, length: u32) -> Settings {
-        Settings {
-            width,
-            mcs,
-            format: 0,
-            length,
-            seed: 1,
-            smoothing: true,
-            not_sounding: true,
-            aggregation: false,
-            short_guard: false,
-        }
-    }
+    use crate::samples::settings;
 
     #[test]
     fn p1_mcs0_20_length1_two_symbols() {
-        assert_eq!(symbol_count(&settings(0, 20, 1)), Ok(2));
+        assert_eq!(symbol_count(&settings(0, 20, 1, 1)), Ok(2));
     }
 
     #[test]
@@ -134,22 +121,22 @@ mod tests {
         // 78/26 exactly.
         assert_eq!(16 + 8 * 7 + 6 * encoders(0), 78);
         assert_eq!(data_bits_per_symbol(20, 0), 26);
-        assert_eq!(symbol_count(&settings(0, 20, 7)), Ok(3));
+        assert_eq!(symbol_count(&settings(0, 20, 7, 1)), Ok(3));
     }
 
     #[test]
     fn p3_mcs0_20_length8_four_symbols() {
-        assert_eq!(symbol_count(&settings(0, 20, 8)), Ok(4));
+        assert_eq!(symbol_count(&settings(0, 20, 8, 1)), Ok(4));
     }
 
     #[test]
     fn p4_mcs0_20_length65535_20166_symbols() {
-        assert_eq!(symbol_count(&settings(0, 20, 65_535)), Ok(20_166));
+        assert_eq!(symbol_count(&settings(0, 20, 65_535, 1)), Ok(20_166));
     }
 
     #[test]
     fn p5_mcs31_40_length65535_243_symbols() {
-        assert_eq!(symbol_count(&settings(31, 40, 65_535)), Ok(243));
+        assert_eq!(symbol_count(&settings(31, 40, 65_535, 1)), Ok(243));
     }
 
     #[test]
@@ -157,7 +144,7 @@ mod tests {
         // 84/78.
         assert_eq!(16 + 8 * 7 + 6 * encoders(16), 84);
         assert_eq!(data_bits_per_symbol(20, 16), 78);
-        assert_eq!(symbol_count(&settings(16, 20, 7)), Ok(2));
+        assert_eq!(symbol_count(&settings(16, 20, 7, 1)), Ok(2));
     }
 
     /// EWC table 1 for one MCS, as printed.
@@ -241,7 +228,7 @@ mod tests {
             for mcs in 0..=31 {
                 let d = data_bits_per_symbol(width, mcs);
                 for length in [1, 2, 3, 100, 1_023, 4_095, 65_534, 65_535] {
-                    let n = symbol_count(&settings(mcs, width, length)).unwrap();
+                    let n = symbol_count(&settings(mcs, width, length, 1)).unwrap();
                     let bits = 16 + 8 * length + 6 * encoders(mcs);
                     assert!(n * d >= bits);
                     assert!((n - 1) * d < bits);
@@ -252,7 +239,7 @@ mod tests {
 
     #[test]
     fn the_count_takes_and_tests_all_settings() {
-        let good = settings(0, 20, 1);
+        let good = settings(0, 20, 1, 1);
         let cases = [
             (Settings { width: 21, ..good }, 1),
             (Settings { mcs: 32, ..good }, 2),
@@ -294,7 +281,7 @@ mod tests {
                 let _ = (data_carriers(a), block(a, b));
                 let _ = (coded_bits_per_symbol(a, b), data_bits_per_symbol(a, b));
                 for length in numbers {
-                    let _ = symbol_count(&settings(a, b, length));
+                    let _ = symbol_count(&settings(a, b, length, 1));
                 }
             }
         }

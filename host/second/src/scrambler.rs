@@ -96,13 +96,7 @@ fn seed_bit(seed: u32, place: u32) -> u8 {
 #[cfg(test)]
 mod tests {
     use super::*;
-
-    fn bits(text: &str) -> Vec<u8> {
-        text.bytes()
-            .filter(|c| *c != b' ')
-            .map(|c| c - b'0')
-            .collect()
-    }
+    use crate::samples::bits;
 
     /// One period of seed 127 as published.
     const PERIOD: &str = "0000111011110010110010010000001000100110001011101011011\
