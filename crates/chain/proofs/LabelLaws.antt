@@ -2,8 +2,8 @@
 -- Assumes of the plan that it fits.
 use mathlib.Core.Path.{_≡_, _∙_, refl, sym, ap₂}
 use mathlib.Core.Logic.{⊎-elim}
-use Prim.Native.Nat.{ℕ, zero, suc, _+_, _-_, _*_, _/_, _^_, _<_, _≤_}
-use native.Mathlib.Nat.{div-add-mod', mul-le-mul-right, suc-mul, pow-zero, pow-suc}
+use Prim.Native.Nat.{ℕ, zero, suc, _+_, _-_, _*_, _/_, _%_, _^_, _<_, _≤_}
+use native.Mathlib.Nat.{div-add-mod', div-lt-iff-lt-mul, mod-lt, mul-le-mul-right, suc-mul, pow-zero, pow-suc, eq-or-lt-of-le, le-of-suc-le-suc}
 use native.Mathlib.Omega.{arith}
 use borrow.Author.Tests.{lt-ltb, le-ltb}
 use Rattle.laws.specs.Claim.{Claim, _under_, each, Holds, sound}
@@ -17,7 +17,7 @@ use Rattle.chain.specs.Statements.{AgreeAt}
 use Rattle.chain.proofs.KeptLaws.{kept-bit}
 use Rattle.chain.proofs.Window.{symbol-window, window-only}
 use Rattle.chain.proofs.ParserLaws.{parses}
-use Rattle.chain.proofs.InterleaverLaws.{interleaves-plan}
+use Rattle.chain.proofs.InterleaverLaws.{block-axis, plan-block, interleaves-plan}
 
 -- bits write a number below the power of two
 pub written-lt : (f : ℕ → ℕ) (a count : ℕ) → ((k : ℕ) → f k < 2) → written f a count < 2 ^ count
@@ -25,12 +25,23 @@ unfolding written
 written-lt f a zero bits = rw pow-zero (omega arith)
 written-lt f a (suc t) bits = rw pow-suc (omega (arith, written-lt f a t bits, bits (a + t)))
 
--- the same bits write the same number
-pub written-ext : (f g : ℕ → ℕ) (a count : ℕ) → ((t : ℕ) → t < count → f (a + t) ≡ g (a + t)) → written f a count ≡ written g a count
+-- the same bits from two places write the same number
+pub written-from : (f g : ℕ → ℕ) (a b count : ℕ) → ((t : ℕ) → t < count → f (a + t) ≡ g (b + t)) → written f a count ≡ written g b count
 unfolding written
-written-ext f g a zero same = refl
-written-ext f g a (suc t) same =
-    ap₂ (λ (w b : ℕ). 2 * w + b) (written-ext f g a t (λ s l. same s (omega arith))) (same t (omega arith))
+written-from f g a b zero same = refl
+written-from f g a b (suc t) same =
+    ap₂ (λ (w d : ℕ). 2 * w + d) (written-from f g a b t (λ k l. same k (omega arith))) (same t (omega arith))
+
+-- and the number tells its bits
+pub written-told : (f g : ℕ → ℕ) (a count : ℕ) → ((k : ℕ) → f k < 2) → ((k : ℕ) → g k < 2) → written f a count ≡ written g a count
+    → (t : ℕ) → t < count → f (a + t) ≡ g (a + t)
+unfolding written
+written-told f g a zero fs gs e t h = absurd (omega arith)
+written-told f g a (suc c) fs gs e t h =
+    ⊎-elim
+    (λ (same : t ≡ c). rw same (omega (arith, e, fs (a + c), gs (a + c))))
+    (λ (less : t < c). written-told f g a c fs gs (omega (arith, e, fs (a + c), gs (a + c))) t less)
+    (eq-or-lt-of-le (le-of-suc-le-suc h))
 
 -- a label bit is a bit
 pub label-bit : (p : Plan) (x : ℕ → ℕ) (n i r : ℕ) → labelBit p x n i r < 2
@@ -54,12 +65,23 @@ few-halves : Holds halvesClaim
 unfolding axisBits
 few-halves = sound halvesClaim tt
 
+abbrev axisClaim : Claim
+axisClaim = each bitCounts λ b. 0 under axisBits b
+
+axis-some : Holds axisClaim
+unfolding axisBits
+axis-some = sound axisClaim tt
+
 module _ (p : Plan) (fits : Fits p) where
   -- the half labels of a symbol: at most four streams' two of each of 108 carriers
   pub halves-most : p .streams * halvesOf p ≤ 864
   halves-most =
       rw (fits .block-is, fits .carriers-is)
       (omega (arith, few-halves (p .width) (fits .width) (p .bits) (fits .bits) (p .streams) (fits .streams)))
+
+  -- a block is a whole number of half labels
+  whole : p .block ≡ axisBits (p .bits) * halvesOf p
+  whole = rw (plan-block p fits) (block-axis (p .width) (p .bits) (fits .width) (fits .bits))
 
   same-line : (x y : ℕ → ℕ) (n : ℕ) → AgreeAt p x y n
       → (e : ℕ) → e < p .dbps + 6 * p .encoders → withHistory x (p .encoders) (n * p .dbps + e) ≡ withHistory y (p .encoders) (n * p .dbps + e)
@@ -90,5 +112,15 @@ module _ (p : Plan) (fits : Fits p) where
   pub halves-local : (x y : ℕ → ℕ) (n : ℕ) → AgreeAt p x y n
       → (i m : ℕ) → i < p .streams → m < halvesOf p → halfLabel p x n i m ≡ halfLabel p y n i m
   halves-local x y n same i m h l =
-      written-ext (labelBit p x n i) (labelBit p y n i) (m * axisBits (p .bits)) (axisBits (p .bits))
+      written-from (labelBit p x n i) (labelBit p y n i) (m * axisBits (p .bits)) (m * axisBits (p .bits)) (axisBits (p .bits))
       (λ t b. labels-local x y n same i _ h (half-below p m t l b))
+
+  -- half labels tell the label bits: where two symbols have the same on a stream, they have the same label bits there
+  pub halves-tell : (x y : ℕ → ℕ) (n n′ i : ℕ) → ((m : ℕ) → m < halvesOf p → halfLabel p x n i m ≡ halfLabel p y n′ i m)
+      → (r : ℕ) → r < p .block → labelBit p x n i r ≡ labelBit p y n′ i r
+  halves-tell x y n n′ i same r h =
+      let s = axisBits (p .bits) in
+      let some : 0 < s = axis-some (p .bits) (fits .bits) in
+      let m : r / s < halvesOf p = div-lt-iff-lt-mul {k = s} some .1 (omega (arith, h, whole)) in
+      let e = written-told (labelBit p x n i) (labelBit p y n′ i) (r / s * s) s (label-bit p x n i) (label-bit p y n′ i) (same (r / s) m) (r % s) (mod-lt r some) in
+      rw (div-add-mod' r s) at e

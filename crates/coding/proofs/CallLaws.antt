@@ -16,7 +16,7 @@ use Rattle.chain.specs.Labels.{share, codedBit, streamBit, labelBit, halfLabel}
 use Rattle.chain.proofs.Window.{encoders-most, share-is, symbol-window, window-only}
 use Rattle.chain.proofs.ParserLaws.{parses}
 use Rattle.chain.proofs.InterleaverLaws.{interleaves-plan}
-use Rattle.chain.proofs.LabelLaws.{label-bit, half-below, written-ext}
+use Rattle.chain.proofs.LabelLaws.{label-bit, half-below, written-from}
 use Rattle.encoder.specs.Coded.{Coded}
 use Rattle.coding.specs.Halves.{labelIn, halfIn, HalvesFilled}
 
@@ -70,7 +70,7 @@ module _ (p : Plan) (fits : Fits p) (x : ℕ → ℕ) (n : ℕ) {line₀ line co
         same = f .same;
         done = λ i m h l.
             f .done i m h l
-            ∙ written-ext (labelIn p coded i) (labelBit p x n i) (m * axisBits (p .bits)) (axisBits (p .bits))
+            ∙ written-from (labelIn p coded i) (labelBit p x n i) (m * axisBits (p .bits)) (m * axisBits (p .bits)) (axisBits (p .bits))
             (λ t b. label-is i _ h (half-below p m t l b));
         rest = f .rest;
       }

@@ -3,7 +3,7 @@
 use mathlib.Core.Path.{_≡_, _∙_, refl, sym, ap, ap₂, subst}
 use mathlib.Core.List.{List, [], _∷_}
 use mathlib.Core.Logic.{⊎-elim}
-use Prim.Native.Nat.{ℕ, zero, suc, _+_, _*_, _/_, _%_, _<_, _≤_}
+use Prim.Native.Nat.{ℕ, _+_, _*_, _/_, _%_, _<_, _≤_}
 use native.Mathlib.Nat.{mul-le-mul, mul-le-mul-right, not-suc-le-zero}
 use native.Mathlib.Omega.{arith}
 use lib.Arith.{digits-lt}
@@ -22,6 +22,7 @@ use Rattle.chain.specs.Interleaver.{rotation, blockOf, shiftOf, source}
 use Rattle.chain.specs.Labels.{written, halvesOf}
 use Rattle.chain.proofs.ParserLaws.{parses}
 use Rattle.chain.proofs.InterleaverLaws.{shift-lt, source-shift, stream-below-four, plan-block, interleaves-plan}
+use Rattle.chain.proofs.LabelLaws.{written-from}
 use Rattle.coding.specs.Sources.{codedPlace, labelSource}
 use Rattle.coding.specs.Halves.{halfAt, labelIn, halfIn, HalfAsked, RunAsked, HalvesFilled}
 use Rattle.coding.proofs.SourceLaws.{small, axis-known}
@@ -77,13 +78,6 @@ groupClaim = each encoderCounts λ e. each keptCounts λ q. 0 under e * q and e 
 -- the coded bits that one group takes of a symbol: some, and few
 pub group-size : Holds groupClaim
 group-size = sound groupClaim tt
-
--- the same bits from two places write the same number
-pub written-from : (f g : ℕ → ℕ) (a b count : ℕ) → ((t : ℕ) → t < count → f (a + t) ≡ g (b + t)) → written f a count ≡ written g b count
-unfolding written
-written-from f g a b zero same = refl
-written-from f g a b (suc t) same =
-    ap₂ (λ (w d : ℕ). 2 * w + d) (written-from f g a b t (λ k l. same k (omega arith))) (same t (omega arith))
 
 -- half labels of a number of carriers, as they are counted
 abbrev pub Counted : (bits carriers n : ℕ) → Type 0
