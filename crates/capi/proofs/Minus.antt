@@ -6,9 +6,9 @@ use lib.IntN.{ℤ, pos, _-ℤ_, +ℤ-idl}
 use mir.Syntax.{w64}
 use mir.Val.{SFits, toZ, ofZ}
 use mir.Facts.{toZ-pos, toZ-ofZ}
-use Rattle.signal.specs.declared.settings.Refusal.{Refusal}
-use Rattle.signal.specs.declared.settings.Refusal.the-variants.{Width, Mcs, Format, Length, Seed, Source, Place, Room, Point, Code, Frame, Closed, SigCrc, SigForm}
-use Rattle.signal.specs.Settings.{numberOf}
+use Rattle.settings.specs.declared.settings.Refusal.{Refusal}
+use Rattle.settings.specs.declared.settings.Refusal.the-variants.{Width, Mcs, Format, Length, Seed, Source, Place, Room, Point, Code, Frame, Closed, SigCrc, SigForm}
+use Rattle.settings.specs.Settings.{numberOf}
 use Rattle.capi.specs.Results.{minus}
 
 minus-is : (n : ℕ) → n < 16 → pos 0 -ℤ toZ w64 n ≡ minus n

@@ -3,16 +3,16 @@ use mathlib.Core.Bool.{Bool, not}
 use Prim.Native.Nat.{ℕ, _+_, _*_}
 use lib.Dec.{eqb}
 use lib.IntN.{ℤ, pos, negℤ}
-use Rattle.signal.specs.declared.settings.RawSettings.{RawSettings}
-use Rattle.signal.specs.declared.settings.Refusal.{Refusal}
-use Rattle.signal.specs.declared.symbols.Count.{Count}
-use Rattle.signal.specs.declared.symbols.Count.the-variants.{Symbols, Refused as CountRefused}
+use Rattle.settings.specs.declared.settings.RawSettings.{RawSettings}
+use Rattle.settings.specs.declared.settings.Refusal.{Refusal}
+use Rattle.settings.specs.declared.symbols.Count.{Count}
+use Rattle.settings.specs.declared.symbols.Count.the-variants.{Symbols, Refused as CountRefused}
 use Rattle.signal.specs.declared.ht_sig.SigFields.{SigFields}
 use Rattle.signal.specs.declared.ht_sig.Written.{Written}
 use Rattle.signal.specs.declared.ht_sig.Written.the-variants.{Done, Refused as WriteRefused}
 use Rattle.signal.specs.declared.ht_sig.SigRead.{SigRead}
 use Rattle.signal.specs.declared.ht_sig.SigRead.the-variants.{Fields, Refused as ReadRefused}
-use Rattle.signal.specs.Settings.{numberOf}
+use Rattle.settings.specs.Settings.{numberOf}
 use Rattle.signal.specs.HtSig.{oneIf}
 
 -- a flag is off at 0 and on at any other number

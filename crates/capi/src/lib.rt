@@ -1,18 +1,18 @@
 // The calls over the C convention: numbers and slices in, one i64 out, a refusal as its number negated.
+use settings::settings::RawSettings;
+use settings::settings::Refusal;
+use settings::settings::number;
+use settings::symbols;
+use settings::symbols::Count;
 use signal::ht_sig;
 use signal::ht_sig::SigFields;
 use signal::ht_sig::SigRead;
 use signal::ht_sig::Written;
-use signal::settings;
-use signal::settings::RawSettings;
-use signal::settings::Refusal;
-use signal::symbols;
-use signal::symbols::Count;
 ghost use mathlib.Core.Path.{_≡_};
 ghost use Prim.Native.Nat.{_<_};
 ghost use lib.ListN.{length as lengthOf};
-ghost use Rattle.signal.specs.Settings.{checkOf};
-ghost use Rattle.signal.specs.Symbols.{countOf};
+ghost use Rattle.settings.specs.Settings.{checkOf};
+ghost use Rattle.settings.specs.Symbols.{countOf};
 ghost use Rattle.signal.specs.HtSig.{writtenOf, writtenInto, readOf};
 ghost use Rattle.signal.specs.Words.{SigFits};
 ghost use Rattle.capi.specs.Results.{rawOf, minus, refusedResult, countResult, writtenResult, fieldsNumber, readResult};
@@ -54,7 +54,7 @@ fn negated(n: u64) -> i64
 fn refused(r: Refusal) -> i64
     ensures { λ n. ⌜ n ≡ refusedResult r ⌝ }
 {
-    negated(settings::number(r))
+    negated(number(r))
 }
 
 // The symbol count.

@@ -4,17 +4,17 @@ use mathlib.Core.List.{List, [], _∷_, _++_, append-nil}
 use Prim.Native.Nat.{ℕ, _+_, _-_, _*_, _<_, _≤_}
 use native.Mathlib.Omega.{arith}
 use lib.ListN.{length, length-append, replicate}
-use Rattle.signal.specs.declared.settings.RawSettings.{RawSettings}
-use Rattle.signal.specs.declared.settings.Refusal.{Refusal}
-use Rattle.signal.specs.declared.settings.Refusal.the-variants.{Width, Mcs, Format, Length, Seed, Source, Place, Room, Point, Code, Frame, Closed, SigCrc, SigForm}
-use Rattle.signal.specs.declared.settings.Checked.{Checked}
-use Rattle.signal.specs.declared.settings.Checked.the-variants.{Accepted, Refused}
-use Rattle.signal.specs.declared.symbols.Count.the-variants.{Symbols, Refused as CountRefused}
+use Rattle.settings.specs.declared.settings.RawSettings.{RawSettings}
+use Rattle.settings.specs.declared.settings.Refusal.{Refusal}
+use Rattle.settings.specs.declared.settings.Refusal.the-variants.{Width, Mcs, Format, Length, Seed, Source, Place, Room, Point, Code, Frame, Closed, SigCrc, SigForm}
+use Rattle.settings.specs.declared.settings.Checked.{Checked}
+use Rattle.settings.specs.declared.settings.Checked.the-variants.{Accepted, Refused}
+use Rattle.settings.specs.declared.symbols.Count.the-variants.{Symbols, Refused as CountRefused}
 use Rattle.signal.specs.declared.ht_sig.SigFields.{SigFields}
-use Rattle.signal.specs.Settings.{checkOf, numberOf}
-use Rattle.signal.specs.Symbols.{symbolsOf, countOf}
+use Rattle.settings.specs.Settings.{checkOf, numberOf}
+use Rattle.settings.specs.Symbols.{symbolsOf, countOf}
 use Rattle.signal.specs.HtSig.{sigBytes, writtenInto}
-use Rattle.signal.proofs.SettingsLaws.{right, symbols-few}
+use Rattle.settings.proofs.SettingsLaws.{right, symbols-few}
 use Rattle.signal.proofs.HtSigLaws.{rest-stays}
 use Rattle.listing.specs.declared.parsing.Parsed.{Parsed}
 use Rattle.listing.specs.declared.parsing.Parsed.the-variants.{Numbers, Malformed}

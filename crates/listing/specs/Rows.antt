@@ -3,12 +3,12 @@
 use mathlib.Core.Bool.{true, false}
 use mathlib.Core.List.{List, [], _∷_, _++_}
 use Prim.Native.Nat.{ℕ}
-use Rattle.signal.specs.declared.settings.RawSettings.{RawSettings}
-use Rattle.signal.specs.declared.settings.Refusal.{Refusal}
-use Rattle.signal.specs.declared.settings.Checked.{Checked}
-use Rattle.signal.specs.declared.settings.Checked.the-variants.{Accepted, Refused}
-use Rattle.signal.specs.Settings.{checkOf, numberOf}
-use Rattle.signal.specs.Symbols.{symbolsOf}
+use Rattle.settings.specs.declared.settings.RawSettings.{RawSettings}
+use Rattle.settings.specs.declared.settings.Refusal.{Refusal}
+use Rattle.settings.specs.declared.settings.Checked.{Checked}
+use Rattle.settings.specs.declared.settings.Checked.the-variants.{Accepted, Refused}
+use Rattle.settings.specs.Settings.{checkOf, numberOf}
+use Rattle.settings.specs.Symbols.{symbolsOf}
 use Rattle.signal.specs.HtSig.{fieldsOf, sigBytes}
 use Rattle.listing.specs.declared.parsing.Parsed.{Parsed}
 use Rattle.listing.specs.declared.parsing.Parsed.the-variants.{Numbers, Malformed}

@@ -3,19 +3,19 @@ use crate::parsing;
 use crate::parsing::Parsed;
 use crate::printing;
 use crate::printing::Row;
+use settings::settings::RawSettings;
+use settings::settings::Refusal;
+use settings::settings::number;
+use settings::symbols;
+use settings::symbols::Count;
 use signal::ht_sig;
-use signal::settings;
-use signal::settings::RawSettings;
-use signal::settings::Refusal;
-use signal::symbols;
-use signal::symbols::Count;
 ghost use mathlib.Core.Path.{_≡_};
 ghost use Prim.Native.Nat.{_<_, _≤_};
 ghost use Rattle.listing.specs.Printing.{emptyRow, pushedAll, rowHolding};
 ghost use Rattle.listing.specs.Rows.{zeros, rawFor, inputsText, refusedText, acceptedText, rowFor, malformedText, rowOf};
 ghost use Rattle.signal.specs.HtSig.{writtenInto};
 ghost use lib.ListN.{length};
-ghost use Rattle.signal.specs.Settings.{checkOf};
+ghost use Rattle.settings.specs.Settings.{checkOf};
 
 const MALFORMED: [u8; 10] = *b"malformed\n";
 
@@ -55,7 +55,7 @@ fn refused_row(inputs: Row, r: Refusal) -> Row
 {
     let refused = REFUSED;
     let word = printing::push_text(inputs, &refused);
-    printing::push(printing::push_decimal(word, settings::number(r)), 10)
+    printing::push(printing::push_decimal(word, number(r)), 10)
 }
 
 fn accepted_row(inputs: Row, symbols: u64, sig: &[u8]) -> Row

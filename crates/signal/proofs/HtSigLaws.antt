@@ -3,7 +3,7 @@ use mathlib.Core.Path.{_≡_, refl, sym, ap, _∙_, subst}
 use mathlib.Core.List.{List, [], _∷_, _++_}
 use mathlib.Core.Bool.{Bool, true, false, cond, not, _||_}
 use mathlib.Core.Logic.{_↔_}
-use Prim.Native.Nat.{ℕ, zero, suc, _+_, _-_, _*_, _/_, _%_, _^_, _<_, _≤_}
+use Prim.Native.Nat.{ℕ, zero, suc, _+_, _*_, _/_, _%_, _^_, _<_, _≤_}
 use native.Mathlib.Nat.{mod-eq-of-lt, div-one}
 use native.Mathlib.Omega.{arith}
 use lib.ListN.{length, take, drop, length-append, length-drop}
@@ -15,22 +15,22 @@ use Rattle.laws.specs.Refusals.{Rule, firstOf}
 use Rattle.laws.proofs.Refusing.{given-exactly}
 use Rattle.laws.proofs.Reflect.{less, same, other, either, or-false}
 use Rattle.chain.specs.Plan.{widths}
-use Rattle.signal.specs.declared.settings.Refusal.{Refusal}
-use Rattle.signal.specs.declared.settings.Refusal.the-variants.{Source, Room, SigCrc, SigForm}
-use Rattle.signal.specs.declared.settings.RawSettings.{RawSettings}
-use Rattle.signal.specs.declared.settings.Settings.{Settings}
-use Rattle.signal.specs.declared.settings.Checked.{Checked}
-use Rattle.signal.specs.declared.settings.Checked.the-variants.{Accepted, Refused}
+use Rattle.settings.specs.declared.settings.Refusal.{Refusal}
+use Rattle.settings.specs.declared.settings.Refusal.the-variants.{Source, Room, SigCrc, SigForm}
+use Rattle.settings.specs.declared.settings.RawSettings.{RawSettings}
+use Rattle.settings.specs.declared.settings.Settings.{Settings}
+use Rattle.settings.specs.declared.settings.Checked.{Checked}
+use Rattle.settings.specs.declared.settings.Checked.the-variants.{Accepted, Refused}
 use Rattle.signal.specs.declared.ht_sig.SigFields.{SigFields}
 use Rattle.signal.specs.declared.ht_sig.Written.the-variants.{Done, Refused as WriteRefused}
 use Rattle.signal.specs.declared.ht_sig.SigRead.{SigRead}
 use Rattle.signal.specs.declared.ht_sig.SigRead.the-variants.{Fields, Refused as ReadRefused}
-use Rattle.signal.specs.Settings.{checkOf, settingsOf, Right}
+use Rattle.settings.specs.Settings.{checkOf, settingsOf, Right}
 use Rattle.signal.specs.HtSig.{oneIf, low, value, packed, ones, shiftedOver, crcBits, headBits, sigBits, sigBytes, fieldsOf, writtenOf, writtenInto, writtenNumber, bitsIn, field, SourceRow, CrcRow, crcWrong, FormRow, formWrong, fieldsIn, readOf, readNumber}
 use Rattle.signal.specs.Words.{headWord, crcRun, crcField, sigWord, sixOf, wordIn, wordCrcWrong, wordFormWrong, fieldsInWord, SigFits}
 use Rattle.signal.specs.Statements.{AreBytes, ReadExactly, ReadRefusals, RoomRow, WriteRefusals}
-use Rattle.signal.proofs.SettingsLaws.{right, accepted-is}
-use Rattle.signal.proofs.Refusals.{settingsRules, after-settings}
+use Rattle.settings.proofs.SettingsLaws.{right, accepted-is}
+use Rattle.settings.proofs.Refusals.{settingsRules, after-settings}
 use Rattle.signal.proofs.Bits.{Two, two-low, two-append, value-append, value-low, same-bits, low-of, low-mod, field-of, drop-low, take-low, packed-low, six-bits, bits-in, six-joined, six-small, six-are-bytes, word-again}
 use Rattle.signal.proofs.Registers.{crc-value, two-sent, field-small}
 

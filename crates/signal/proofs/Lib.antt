@@ -1,6 +1,3 @@
-pub mod SettingsLaws
-pub mod Refusals
-pub mod Worked
 pub mod Bits
 pub mod Registers
 pub mod HtSigLaws

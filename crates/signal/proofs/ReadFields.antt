@@ -8,8 +8,8 @@ use native.Mathlib.Omega.{arith}
 use lib.Dec.{eqb}
 use lib.Pow.{pow-pos}
 use lib.ListN.{length, take, drop}
-use Rattle.signal.specs.declared.settings.Refusal.{Refusal}
-use Rattle.signal.specs.declared.settings.Refusal.the-variants.{Source, SigCrc, SigForm}
+use Rattle.settings.specs.declared.settings.Refusal.{Refusal}
+use Rattle.settings.specs.declared.settings.Refusal.the-variants.{Source, SigCrc, SigForm}
 use Rattle.signal.specs.declared.ht_sig.SigFields.{SigFields}
 use Rattle.signal.specs.declared.ht_sig.SigRead.the-variants.{Fields, Refused}
 use Rattle.signal.specs.HtSig.{low, value, bitsIn, field, crcWrong, formWrong, fieldsIn, readOf}

@@ -1,16 +1,16 @@
--- What is proved beside the contracts. The terms are in proofs/Refusals and proofs/HtSigLaws.
+-- What is proved of HT-SIG beside the contracts. The terms are in proofs/HtSigLaws.
 use mathlib.Core.Path.{_≡_}
 use mathlib.Core.Logic.{_↔_}
 use mathlib.Core.List.{List}
 use Prim.Native.Nat.{ℕ, _<_}
 use lib.ListN.{length, getD}
-use Rattle.signal.specs.declared.settings.RawSettings.{RawSettings}
-use Rattle.signal.specs.declared.settings.Settings.{Settings}
-use Rattle.signal.specs.declared.settings.Checked.the-variants.{Accepted}
+use Rattle.settings.specs.declared.settings.RawSettings.{RawSettings}
+use Rattle.settings.specs.declared.settings.Settings.{Settings}
+use Rattle.settings.specs.declared.settings.Checked.the-variants.{Accepted}
 use Rattle.signal.specs.declared.ht_sig.SigFields.{SigFields}
 use Rattle.signal.specs.declared.ht_sig.SigRead.the-variants.{Fields}
-use Rattle.signal.specs.Settings.{checkOf, WidthRow, McsRow, FormatRow, LengthRow, SeedRow}
-use Rattle.signal.specs.Symbols.{countOf, countNumber}
+use Rattle.settings.specs.Settings.{checkOf}
+use Rattle.settings.specs.Statements.{NoSettingsRow, SettingsRows}
 use Rattle.signal.specs.HtSig.{fieldsOf, sigBytes, writtenOf, writtenNumber, readOf, readNumber, SourceRow, CrcRow, FormRow}
 
 -- each number of a list is a byte
@@ -24,29 +24,7 @@ ReadExactly = (l : List ℕ) → AreBytes l
     ↔ ((a : RawSettings) × ((s : Settings) × ((checkOf a ≡ Accepted s) × (l ≡ sigBytes (fieldsOf s))))))
     × ((g : SigFields) (a : RawSettings) (s : Settings) → readOf l ≡ Fields g → checkOf a ≡ Accepted s → l ≡ sigBytes (fieldsOf s) → g ≡ fieldsOf s)
 
--- ---- refusals: "given exactly when" its row applies and none tested before it does; 0 where none applies
-
--- no row of the settings applies, and what else holds
-abbrev pub NoSettingsRow : RawSettings → Type 0 → Type 0
-NoSettingsRow a Rest = (WidthRow a → ⊥) × ((McsRow a → ⊥) × ((FormatRow a → ⊥) × ((LengthRow a → ⊥) × ((SeedRow a → ⊥) × Rest))))
-
--- 1 to 5 of a number that a call gives, and what holds of its further refusals
-abbrev pub SettingsRows : RawSettings → ℕ → Type 0 → Type 0
-SettingsRows a n Further =
-    ((n ≡ 1) ↔ (WidthRow a × Unit {0}))
-    × (((n ≡ 2) ↔ (McsRow a × ((WidthRow a → ⊥) × Unit {0})))
-    × (((n ≡ 3) ↔ (FormatRow a × ((WidthRow a → ⊥) × ((McsRow a → ⊥) × Unit {0}))))
-    × (((n ≡ 4) ↔ (LengthRow a × ((WidthRow a → ⊥) × ((McsRow a → ⊥) × ((FormatRow a → ⊥) × Unit {0})))))
-    × (((n ≡ 5) ↔ (SeedRow a × ((WidthRow a → ⊥) × ((McsRow a → ⊥) × ((FormatRow a → ⊥) × ((LengthRow a → ⊥) × Unit {0}))))))
-    × Further))))
-
--- of a call that refuses by the settings alone
-abbrev pub SettingsRefusals : RawSettings → ℕ → Type 0
-SettingsRefusals a n = SettingsRows a n ((n ≡ 0) ↔ NoSettingsRow a (Unit {0}))
-
--- the symbol count: 1 to 5
-abbrev pub CountRefusals : Type 0
-CountRefusals = (a : RawSettings) → SettingsRefusals a (countNumber (countOf (checkOf a)))
+-- ---- refusals, as the settings' statements have them: "given exactly when" its row applies and none tested before it does; 0 where none applies
 
 -- "the lent slice for .. signal bytes .. is too short"
 abbrev pub RoomRow : ℕ → Type 0

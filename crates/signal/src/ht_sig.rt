@@ -1,14 +1,15 @@
 // The HT-SIG field: 48 bits in six bytes (document 01, 'Signal bits').
-use crate::settings;
-use crate::settings::Checked;
-use crate::settings::RawSettings;
-use crate::settings::Refusal;
-use crate::settings::Settings;
+use settings::settings::Checked;
+use settings::settings::RawSettings;
+use settings::settings::Refusal;
+use settings::settings::Settings;
+use settings::settings::check;
+use settings::settings::refusal_of;
 ghost use mathlib.Core.Path.{_≡_};
 ghost use mathlib.Core.List.{_++_};
 ghost use Prim.Native.Nat.{_<_, _≤_, _-_, _%_};
 ghost use lib.ListN.{length, drop};
-ghost use Rattle.signal.specs.Settings.{checkOf};
+ghost use Rattle.settings.specs.Settings.{checkOf};
 ghost use Rattle.signal.specs.HtSig.{oneIf, fieldsOf, writtenOf, writtenInto, readOf};
 ghost use Rattle.signal.specs.Words.{SigFits, headWord, crcShift, crcRun, crcField, sigWord, sixOf, wordIn, wordCrcWrong, wordFormWrong, fieldsInWord};
 
@@ -146,9 +147,9 @@ fn fields_of(s: Settings) -> SigFields
 pub fn write(raw: RawSettings, out: &mut [u8]) -> Written
     ensures { λ r. ⌜ (r ≡ writtenOf (checkOf raw) (length (now (out .entry)))) × (now (out .exit) ≡ writtenInto (checkOf raw) (now (out .entry))) ⌝ }
 {
-    let checked = settings::check(raw);
+    let checked = check(raw);
     let Checked::Accepted(s) = checked else {
-        return Written::Refused(settings::refusal_of(checked));
+        return Written::Refused(refusal_of(checked));
     };
     if out.len() < 6 {
         return Written::Refused(Refusal::Room);

@@ -1,4 +1,2 @@
-// What the settings alone give: whether they are accepted, the symbol count, and the HT-SIG bytes.
+// The HT-SIG bytes of accepted settings, and the settings in HT-SIG bytes.
 pub mod ht_sig;
-pub mod settings;
-pub mod symbols;

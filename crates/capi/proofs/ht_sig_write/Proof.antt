@@ -1,8 +1,8 @@
 use denote.Ref.{now}
 use mathlib.Core.Path.{sym, ap, _∙_}
 use lib.ListN.{length}
-use Rattle.signal.specs.declared.settings.RawSettings.{RawSettings}
-use Rattle.signal.specs.Settings.{checkOf}
+use Rattle.settings.specs.declared.settings.RawSettings.{RawSettings}
+use Rattle.settings.specs.Settings.{checkOf}
 use Rattle.signal.specs.HtSig.{writtenOf, writtenInto}
 use Rattle.capi.specs.Results.{writtenResult}
 use borrow.Author.Needs.{needs}

@@ -1,9 +1,9 @@
 use mathlib.Core.Path.{sym, ap, _∙_}
 use native.Mathlib.Omega.{arith}
-use Rattle.signal.specs.declared.settings.RawSettings.{RawSettings}
-use Rattle.signal.specs.Settings.{checkOf}
-use Rattle.signal.specs.Symbols.{countOf}
-use Rattle.signal.proofs.SettingsLaws.{count-few}
+use Rattle.settings.specs.declared.settings.RawSettings.{RawSettings}
+use Rattle.settings.specs.Settings.{checkOf}
+use Rattle.settings.specs.Symbols.{countOf}
+use Rattle.settings.proofs.SettingsLaws.{count-few}
 use Rattle.capi.specs.Results.{countResult}
 use Rattle.capi.proofs.Minus.{pos-fits, pos-is}
 use borrow.Author.Needs.{needs}

@@ -1,6 +1,6 @@
 -- `listing::rows::answered_row` meets its contract: the answer by the count. Assumes nothing.
 use mathlib.Core.Path.{sym, _∙_}
-use Rattle.signal.specs.Settings.{checkOf}
+use Rattle.settings.specs.Settings.{checkOf}
 use Rattle.listing.proofs.RowLaws.{count-small, six-written, row-accepted, row-refused}
 use borrow.Author.Needs.{needs}
 use Rattle.listing.proofs.rows.answered_row.Statement.{statement}

@@ -1,8 +1,8 @@
 use mathlib.Core.Path.{_∙_, sym, ap, subst}
 use denote.Ref.{now}
-use Rattle.signal.specs.Settings.{checkOf, IsRefused}
+use Rattle.settings.specs.Settings.{checkOf, IsRefused}
 use Rattle.signal.specs.Words.{SigFits, sigWord}
-use Rattle.signal.proofs.SettingsLaws.{right}
+use Rattle.settings.proofs.SettingsLaws.{right}
 use Rattle.signal.proofs.HtSigLaws.{refused-write, no-room, wrote, sig-fits}
 use borrow.Author.Needs.{needs}
 use Rattle.signal.proofs.ht_sig.write.Statement.{statement}

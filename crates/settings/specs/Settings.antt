@@ -7,12 +7,12 @@ use lib.Dec.{T, ltb, eqb}
 use Rattle.laws.specs.Test.{among}
 use Rattle.chain.specs.Plan.{widths, streamsOf, planOf}
 use Rattle.chain.specs.declared.plan.Plan.{Plan}
-use Rattle.signal.specs.declared.settings.Refusal.{Refusal}
-use Rattle.signal.specs.declared.settings.Refusal.the-variants.{Width, Mcs, Format, Length, Seed, Source, Place, Room, Point, Code, Frame, Closed, SigCrc, SigForm}
-use Rattle.signal.specs.declared.settings.RawSettings.{RawSettings}
-use Rattle.signal.specs.declared.settings.Settings.{Settings}
-use Rattle.signal.specs.declared.settings.Checked.{Checked}
-use Rattle.signal.specs.declared.settings.Checked.the-variants.{Accepted, Refused}
+use Rattle.settings.specs.declared.settings.Refusal.{Refusal}
+use Rattle.settings.specs.declared.settings.Refusal.the-variants.{Width, Mcs, Format, Length, Seed, Source, Place, Room, Point, Code, Frame, Closed, SigCrc, SigForm}
+use Rattle.settings.specs.declared.settings.RawSettings.{RawSettings}
+use Rattle.settings.specs.declared.settings.Settings.{Settings}
+use Rattle.settings.specs.declared.settings.Checked.{Checked}
+use Rattle.settings.specs.declared.settings.Checked.the-variants.{Accepted, Refused}
 
 -- the table's numbers
 abbrev pub numberOf : Refusal → ℕ

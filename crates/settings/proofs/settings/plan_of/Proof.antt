@@ -1,10 +1,10 @@
 use mathlib.Core.Path.{_∙_, ap}
 use Rattle.chain.specs.Plan.{planOf}
-use Rattle.signal.specs.Settings.{planFor}
-use Rattle.signal.proofs.SettingsLaws.{planned}
+use Rattle.settings.specs.Settings.{planFor}
+use Rattle.settings.proofs.SettingsLaws.{planned}
 use borrow.Author.Needs.{needs}
-use Rattle.signal.proofs.settings.plan_of.Statement.{statement}
-use Rattle.signal.proofs.settings.plan_of.Tie as tie
+use Rattle.settings.proofs.settings.plan_of.Statement.{statement}
+use Rattle.settings.proofs.settings.plan_of.Tie as tie
 
 encoders-requires : tie.Need-encoders-requires
 encoders-requires c κs = search needs

@@ -1,11 +1,11 @@
 use mathlib.Core.Path.{_∙_, sym, ap, subst}
-use Rattle.signal.specs.Settings.{IsRefused}
-use Rattle.signal.specs.Symbols.{countOf}
-use Rattle.signal.specs.declared.symbols.Count.the-variants.{Symbols}
-use Rattle.signal.proofs.SettingsLaws.{right}
+use Rattle.settings.specs.Settings.{IsRefused}
+use Rattle.settings.specs.Symbols.{countOf}
+use Rattle.settings.specs.declared.symbols.Count.the-variants.{Symbols}
+use Rattle.settings.proofs.SettingsLaws.{right}
 use borrow.Author.Needs.{needs}
-use Rattle.signal.proofs.symbols.symbol_count.Statement.{statement}
-use Rattle.signal.proofs.symbols.symbol_count.Tie as tie
+use Rattle.settings.proofs.symbols.symbol_count.Statement.{statement}
+use Rattle.settings.proofs.symbols.symbol_count.Tie as tie
 
 check-requires : tie.Need-check-requires
 check-requires c κs = search needs

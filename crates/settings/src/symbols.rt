@@ -6,8 +6,8 @@ use crate::settings::Refusal;
 use crate::settings::Settings;
 ghost use mathlib.Core.Path.{_≡_};
 ghost use Prim.Native.Nat.{_*_, _≤_};
-ghost use Rattle.signal.specs.Settings.{checkOf, Right};
-ghost use Rattle.signal.specs.Symbols.{symbolsOf, countOf};
+ghost use Rattle.settings.specs.Settings.{checkOf, Right};
+ghost use Rattle.settings.specs.Symbols.{symbolsOf, countOf};
 
 pub enum Count {
     Symbols(u64),

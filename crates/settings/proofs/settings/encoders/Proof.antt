@@ -1,6 +1,6 @@
 use borrow.Author.Needs.{needs}
-use Rattle.signal.proofs.settings.encoders.Statement.{statement}
-use Rattle.signal.proofs.settings.encoders.Tie as tie
+use Rattle.settings.proofs.settings.encoders.Statement.{statement}
+use Rattle.settings.proofs.settings.encoders.Tie as tie
 
 add-few : tie.Need-add-few
 add-few c = search needs

@@ -1,6 +1,6 @@
-use Rattle.signal.proofs.SettingsLaws.{accepted-is}
-use Rattle.signal.proofs.settings.check.Statement.{statement}
-use Rattle.signal.proofs.settings.check.Tie as tie
+use Rattle.settings.proofs.SettingsLaws.{accepted-is}
+use Rattle.settings.proofs.settings.check.Statement.{statement}
+use Rattle.settings.proofs.settings.check.Tie as tie
 
 returns : tie.Need-returns
 returns c = simp (c .if1 .taken)

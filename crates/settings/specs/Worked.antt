@@ -4,10 +4,10 @@ use mathlib.Core.List.{List, [], _∷_, _++_}
 use Prim.Native.Nat.{ℕ}
 use Rattle.laws.specs.Claim.{Claim, _is_}
 use Rattle.chain.specs.Worked.{workedChain}
-use Rattle.signal.specs.declared.symbols.Count.{Count}
-use Rattle.signal.specs.declared.symbols.Count.the-variants.{Symbols, Refused}
-use Rattle.signal.specs.Settings.{checkOf}
-use Rattle.signal.specs.Symbols.{countOf}
+use Rattle.settings.specs.declared.symbols.Count.{Count}
+use Rattle.settings.specs.declared.symbols.Count.the-variants.{Symbols, Refused}
+use Rattle.settings.specs.Settings.{checkOf}
+use Rattle.settings.specs.Symbols.{countOf}
 
 abbrev pub givenCount : Count → ℕ
 givenCount (Symbols n) = n

@@ -7,14 +7,14 @@ use lib.Dec.{eqb, ltb}
 use Rattle.laws.specs.Refusals.{Rule, firstOf}
 use Rattle.laws.proofs.Refusing.{given-exactly}
 use Rattle.laws.proofs.Reflect.{less, same, either, neither}
-use Rattle.signal.specs.Settings.{WidthRow, McsRow, FormatRow, LengthRow, SeedRow, badWidth, badMcs, badFormat, badLength, badSeed, settingsOf, checkOf, checkedNumber, numberOf}
-use Rattle.signal.specs.Symbols.{countOf, countNumber}
-use Rattle.signal.specs.Statements.{SettingsRefusals, CountRefusals}
-use Rattle.signal.specs.declared.settings.Refusal.{Refusal}
-use Rattle.signal.specs.declared.settings.RawSettings.{RawSettings}
-use Rattle.signal.specs.declared.settings.Refusal.the-variants.{Width, Mcs, Format, Length, Seed}
-use Rattle.signal.specs.declared.settings.Checked.{Checked}
-use Rattle.signal.specs.declared.settings.Checked.the-variants.{Accepted, Refused}
+use Rattle.settings.specs.Settings.{WidthRow, McsRow, FormatRow, LengthRow, SeedRow, badWidth, badMcs, badFormat, badLength, badSeed, settingsOf, checkOf, checkedNumber, numberOf}
+use Rattle.settings.specs.Symbols.{countOf, countNumber}
+use Rattle.settings.specs.Statements.{SettingsRefusals, CountRefusals}
+use Rattle.settings.specs.declared.settings.Refusal.{Refusal}
+use Rattle.settings.specs.declared.settings.RawSettings.{RawSettings}
+use Rattle.settings.specs.declared.settings.Refusal.the-variants.{Width, Mcs, Format, Length, Seed}
+use Rattle.settings.specs.declared.settings.Checked.{Checked}
+use Rattle.settings.specs.declared.settings.Checked.the-variants.{Accepted, Refused}
 
 -- the five rows, each with its test
 module _ (a : RawSettings) where

@@ -1,15 +1,15 @@
 -- `signal::symbols::symbols_of` meets its contract, with what the plan's facts say of the sizes. Assumes nothing.
 use mathlib.Core.Path.{_≡_, _∙_, sym, ap, ap₂, subst}
 use native.Mathlib.Omega.{arith}
-use Prim.Native.Nat.{ℕ, _+_, _-_, _*_}
+use Prim.Native.Nat.{ℕ, _+_, _*_}
 use Rattle.chain.specs.Plan.{Fits}
 use Rattle.chain.specs.declared.plan.Plan.{Plan}
-use Rattle.signal.specs.Settings.{encodersOf}
-use Rattle.signal.specs.Symbols.{ceil, symbolsOf}
-use Rattle.signal.proofs.SettingsLaws.{plan-fits, encoders-few, planned-encoders}
+use Rattle.settings.specs.Settings.{encodersOf}
+use Rattle.settings.specs.Symbols.{ceil, symbolsOf}
+use Rattle.settings.proofs.SettingsLaws.{plan-fits, encoders-few, planned-encoders}
 use borrow.Author.Needs.{needs}
-use Rattle.signal.proofs.symbols.symbols_of.Statement.{statement}
-use Rattle.signal.proofs.symbols.symbols_of.Tie as tie
+use Rattle.settings.proofs.symbols.symbols_of.Statement.{statement}
+use Rattle.settings.proofs.symbols.symbols_of.Tie as tie
 
 -- the plan that the call gave
 encoders-are : (c : tie.After-plan-of) → c .plan-of .result .encoders ≡ encodersOf (c .before .args .s .mcs)

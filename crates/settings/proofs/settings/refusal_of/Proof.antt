@@ -1,8 +1,8 @@
 use mathlib.Core.Path.{subst}
-use Rattle.signal.specs.Settings.{IsRefused}
+use Rattle.settings.specs.Settings.{IsRefused}
 use borrow.Author.Needs.{needs}
-use Rattle.signal.proofs.settings.refusal_of.Statement.{statement}
-use Rattle.signal.proofs.settings.refusal_of.Tie as tie
+use Rattle.settings.proofs.settings.refusal_of.Statement.{statement}
+use Rattle.settings.proofs.settings.refusal_of.Tie as tie
 
 enum-known-checked : tie.Need-enum-known-checked
 enum-known-checked c = search needs

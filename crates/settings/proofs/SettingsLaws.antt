@@ -11,15 +11,15 @@ use Rattle.laws.proofs.Refusing.{true-not-false}
 use Rattle.laws.proofs.Reflect.{or-false}
 use Rattle.chain.specs.Plan.{widths, encoderCounts, streamsOf, planOf, Planned, Fits}
 use Rattle.chain.proofs.Plans.{fits}
-use Rattle.signal.specs.Settings.{badWidth, badMcs, badFormat, badLength, badSeed, settingsOf, checkOf, encodersOf, planFor, Right}
-use Rattle.signal.specs.Symbols.{bitsToSend, ceil, symbolsOf, countOf}
-use Rattle.signal.specs.declared.settings.RawSettings.{RawSettings}
-use Rattle.signal.specs.declared.settings.Refusal.{Refusal}
-use Rattle.signal.specs.declared.settings.Refusal.the-variants.{Width, Mcs, Format, Length, Seed}
-use Rattle.signal.specs.declared.settings.Settings.{Settings}
-use Rattle.signal.specs.declared.settings.Checked.{Checked}
-use Rattle.signal.specs.declared.settings.Checked.the-variants.{Accepted, Refused}
-use Rattle.signal.specs.declared.symbols.Count.the-variants.{Symbols}
+use Rattle.settings.specs.Settings.{badWidth, badMcs, badFormat, badLength, badSeed, settingsOf, checkOf, encodersOf, planFor, Right}
+use Rattle.settings.specs.Symbols.{bitsToSend, ceil, symbolsOf, countOf}
+use Rattle.settings.specs.declared.settings.RawSettings.{RawSettings}
+use Rattle.settings.specs.declared.settings.Refusal.{Refusal}
+use Rattle.settings.specs.declared.settings.Refusal.the-variants.{Width, Mcs, Format, Length, Seed}
+use Rattle.settings.specs.declared.settings.Settings.{Settings}
+use Rattle.settings.specs.declared.settings.Checked.{Checked}
+use Rattle.settings.specs.declared.settings.Checked.the-variants.{Accepted, Refused}
+use Rattle.settings.specs.declared.symbols.Count.the-variants.{Symbols}
 
 -- the answer where every test passes
 pub accepted-is : (a : RawSettings) → badWidth a ≡ false → badMcs a ≡ false → badFormat a ≡ false → badLength a ≡ false → badSeed a ≡ false

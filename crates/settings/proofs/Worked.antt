@@ -6,9 +6,9 @@ use Rattle.chain.specs.Encoder.{tap}
 use Rattle.chain.specs.Puncture.{keptOf}
 use Rattle.chain.specs.Parser.{axisBits}
 use Rattle.chain.specs.Interleaver.{columns, rows, rotation, blockOf, byColumns, alternated, shiftOf, rotated, place}
-use Rattle.signal.specs.Settings.{planFor}
-use Rattle.signal.specs.Symbols.{symbolsOf}
-use Rattle.signal.specs.Worked.{checkedByHand}
+use Rattle.settings.specs.Settings.{planFor}
+use Rattle.settings.specs.Symbols.{symbolsOf}
+use Rattle.settings.specs.Worked.{checkedByHand}
 
 pub checked-by-hand : Holds (table checkedByHand)
 unfolding symbolsOf planFor planOf stateAt tap keptOf place byColumns alternated rotated columns rows rotation shiftOf blockOf axisBits

@@ -1,11 +1,11 @@
 -- The symbol count (document 01, 'Settings').
 use Prim.Native.Nat.{ℕ, _+_, _-_, _*_, _/_}
-use Rattle.signal.specs.declared.settings.Settings.{Settings}
-use Rattle.signal.specs.declared.settings.Checked.{Checked}
-use Rattle.signal.specs.declared.settings.Checked.the-variants.{Accepted, Refused}
-use Rattle.signal.specs.declared.symbols.Count.{Count}
-use Rattle.signal.specs.declared.symbols.Count.the-variants.{Symbols, Refused as CountRefused}
-use Rattle.signal.specs.Settings.{numberOf, encodersOf, planFor}
+use Rattle.settings.specs.declared.settings.Settings.{Settings}
+use Rattle.settings.specs.declared.settings.Checked.{Checked}
+use Rattle.settings.specs.declared.settings.Checked.the-variants.{Accepted, Refused}
+use Rattle.settings.specs.declared.symbols.Count.{Count}
+use Rattle.settings.specs.declared.symbols.Count.the-variants.{Symbols, Refused as CountRefused}
+use Rattle.settings.specs.Settings.{numberOf, encodersOf, planFor}
 
 -- service, payload and tail bits
 abbrev pub bitsToSend : Settings → ℕ

@@ -2,7 +2,7 @@
 use chain::plan;
 use chain::plan::Plan;
 ghost use mathlib.Core.Path.{_≡_};
-ghost use Rattle.signal.specs.Settings.{numberOf, checkOf, IsRefused, encodersOf, planFor, Right};
+ghost use Rattle.settings.specs.Settings.{numberOf, checkOf, IsRefused, encodersOf, planFor, Right};
 
 // The refusals of document 01's table, in its order.
 pub enum Refusal {

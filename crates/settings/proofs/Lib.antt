@@ -1,0 +1,3 @@
+pub mod SettingsLaws
+pub mod Refusals
+pub mod Worked

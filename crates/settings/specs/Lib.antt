@@ -1,0 +1,4 @@
+pub mod Settings
+pub mod Worked
+pub mod Symbols
+pub mod Statements
