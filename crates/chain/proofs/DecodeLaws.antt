@@ -12,8 +12,8 @@ use Rattle.chain.specs.Parser.{axisBits, encoderOf, indexOf, streamOf, b
 use Rattle.chain.specs.Interleaver.{place, source}
 use Rattle.chain.specs.Labels.{share, codedBit, streamBit, labelBit}
 use Rattle.chain.specs.Decoder.{historyAfter, dealt, codedIn, decodedInput, decodes, labelAfter, historyBefore}
-use Rattle.chain.proofs.KeptLaws.{kept-low}
-use Rattle.chain.proofs.Window.{encoders-some, share-is}
+use Rattle.chain.proofs.Counts.{encoders-some, kept-low}
+use Rattle.chain.proofs.Window.{share-is}
 use Rattle.chain.proofs.Dealing.{Gives, history-ext, coded-bit, inputs-bit, inputs-back, checks-back, checks-give}
 use Rattle.chain.proofs.Machine.{history-small, history-after, symbol-is}
 use Rattle.chain.proofs.ParserLaws.{parses}
@@ -101,13 +101,13 @@ module _ (p : Plan) (fits : Fits p) where
     -- recovery: they decode to X
     pub given-decode : (d : ℕ) → d < p .dbps → decodedInput p hs lab d ≡ X d
     given-decode d l =
-        inputs-back hs (codedIn p lab) (p .encoders) (p .kept) (groupsOf p) (encoders-some p fits) (kept-low (p .kept) (fits .kept))
+        inputs-back hs (codedIn p lab) (p .encoders) (p .kept) (groupsOf p) (encoders-some (p .encoders) (fits .encoders)) (kept-low (p .kept) (fits .kept))
         X (λ k b. bits k (rw (fits .dbps-groups) b)) (labels-give hs X lab from) d (rw (fits .dbps-groups) at l)
 
     -- and pass the test
     pub given-decodes : T (decodes p hs lab)
     given-decodes =
-        checks-back hs (codedIn p lab) (p .encoders) (p .kept) (groupsOf p) (encoders-some p fits) (kept-low (p .kept) (fits .kept))
+        checks-back hs (codedIn p lab) (p .encoders) (p .kept) (groupsOf p) (encoders-some (p .encoders) (fits .encoders)) (kept-low (p .kept) (fits .kept))
         X (λ k b. bits k (rw (fits .dbps-groups) b)) (labels-give hs X lab from)
 
   coded-in-bit : (lab : ℕ → ℕ → ℕ) → ((i r : ℕ) → i < p .streams → r < p .block → lab i r < 2)
@@ -123,7 +123,7 @@ module _ (p : Plan) (fits : Fits p) where
       → (i r : ℕ) → i < p .streams → r < p .block → lab i r ≡ labelAfter p hs (decodedInput p hs lab) i r
   decoded-labels hs lab bits t =
       give-labels hs (decodedInput p hs lab) lab
-      (checks-give hs (codedIn p lab) (p .encoders) (p .kept) (groupsOf p) (encoders-some p fits) (kept-low (p .kept) (fits .kept))
+      (checks-give hs (codedIn p lab) (p .encoders) (p .kept) (groupsOf p) (encoders-some (p .encoders) (fits .encoders)) (kept-low (p .kept) (fits .kept))
       (coded-in-bit lab bits) t)
 
   -- the label bits of inputs X after any histories decode to X

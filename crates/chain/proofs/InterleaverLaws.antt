@@ -10,10 +10,11 @@ use Rattle.laws.specs.Test.{among}
 use Rattle.laws.specs.Claim.{Claim, _is_, _under_, _and_, upTo, each, Holds, sound}
 use Rattle.laws.proofs.Search.{first-is}
 use Rattle.chain.specs.declared.plan.Plan.{Plan}
-use Rattle.chain.specs.Plan.{widths, bitCounts, streamCounts, Fits}
+use Rattle.chain.specs.Plan.{widths, bitCounts, Fits}
 use Rattle.chain.specs.Parser.{axisBits}
 use Rattle.chain.specs.Interleaver.{columns, rows, rotation, blockOf, byColumns, alternated, shiftOf, rotated, place, source, unrotated, unalternated, byRows, sourceForm}
 use Rattle.chain.specs.Statements.{Interleaves}
+use Rattle.chain.proofs.Counts.{streams-most}
 
 -- at every width, B, stream and bit of the block
 abbrev everywhere : ((w b i k : ℕ) → Claim) → Claim
@@ -113,16 +114,10 @@ source-shift w b i hw hb hi r hr =
     ∙ turned-form w b i hw hb hi r
     ∙ sym (source-is w b 0 hw hb (omega arith) ((r + shiftOf w b i) % blockOf w b) (turned-lt w b i hw hb hi r))
 
-abbrev fourClaim : Claim
-fourClaim = each streamCounts λ n. n under 5
-
-fours : Holds fourClaim
-fours = sound fourClaim tt
-
 module _ (p : Plan) (f : Fits p) where
   -- the number of a plan's stream is below 4
   pub stream-below-four : (i : ℕ) → i < p .streams → i < 4
-  stream-below-four i h = omega (arith, h, fours (p .streams) (f .streams))
+  stream-below-four i h = omega (arith, h, streams-most (p .streams) (f .streams))
 
   -- a plan's block is the interleaver's
   pub plan-block : p .block ≡ blockOf (p .width) (p .bits)

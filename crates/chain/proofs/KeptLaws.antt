@@ -8,25 +8,11 @@ use native.Mathlib.Omega.{arith}
 use lib.Dec.{T, lit≤, eqb}
 use lib.ListN.{getD}
 use Rattle.laws.specs.Test.{among}
-use Rattle.laws.specs.Claim.{Claim, _is_, _under_, _and_, upTo, each, Holds, sound}
+use Rattle.laws.specs.Claim.{Claim, _is_, upTo, each, Holds, sound}
 use Rattle.chain.specs.Plan.{keptCounts}
 use Rattle.chain.specs.Encoder.{sumA, sumB}
 use Rattle.chain.specs.Puncture.{Kept, A, B, pattern, sumOf, keptOf, keptStep, closedKept}
-
--- the numbers of kept bits
-abbrev countClaim : Claim
-countClaim = each keptCounts λ q. 1 under q and q under 7
-
-counts : Holds countClaim
-counts = sound countClaim tt
-
--- at least two bits are kept of a group
-pub kept-low : (q : ℕ) → T (among keptCounts q) → 2 ≤ q
-kept-low q h = counts q h .0
-
--- at most six are
-pub kept-high : (q : ℕ) → T (among keptCounts q) → q ≤ 6
-kept-high q h = omega (arith, counts q h .1)
+use Rattle.chain.proofs.Counts.{kept-low}
 
 -- A0 B0 A1 B1 .. as one number: 0, 1, 2, 3, ..
 abbrev numberOf : Kept → ℕ

@@ -14,6 +14,7 @@ use Rattle.chain.specs.Encoder.{withHistory}
 use Rattle.chain.specs.Parser.{axisBits}
 use Rattle.chain.specs.Labels.{share, codedBit, streamBit, labelBit, written, halfLabel, halvesOf}
 use Rattle.chain.specs.Statements.{AgreeAt}
+use Rattle.chain.proofs.Counts.{axis-some}
 use Rattle.chain.proofs.KeptLaws.{kept-bit}
 use Rattle.chain.proofs.Window.{symbol-window, window-only}
 use Rattle.chain.proofs.ParserLaws.{parses}
@@ -64,13 +65,6 @@ halvesClaim = each widths λ w. each bitCounts λ b. each streamCounts λ S. S *
 few-halves : Holds halvesClaim
 unfolding axisBits
 few-halves = sound halvesClaim tt
-
-abbrev axisClaim : Claim
-axisClaim = each bitCounts λ b. 0 under axisBits b
-
-axis-some : Holds axisClaim
-unfolding axisBits
-axis-some = sound axisClaim tt
 
 module _ (p : Plan) (fits : Fits p) where
   -- the half labels of a symbol: at most four streams' two of each of 108 carriers

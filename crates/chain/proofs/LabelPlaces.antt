@@ -3,28 +3,19 @@
 use mathlib.Core.Path.{_≡_, _∙_, sym, ap}
 use Prim.Native.Nat.{ℕ, _<_}
 use native.Mathlib.Nat.{mod-lt, div-lt-iff-lt-mul}
-use Rattle.laws.specs.Claim.{Claim, _under_, each, Holds, sound}
 use Rattle.chain.specs.declared.plan.Plan.{Plan}
-use Rattle.chain.specs.Plan.{bitCounts, Fits}
+use Rattle.chain.specs.Plan.{Fits}
 use Rattle.chain.specs.Parser.{axisBits, encoderOf, indexOf, bitOf}
 use Rattle.chain.specs.Interleaver.{place, source}
 use Rattle.chain.specs.Labels.{share, streamBit, labelBit}
 use Rattle.chain.specs.Statements.{Parses, Interleaves, codedStream, codedPlace, placeEncoder, placeIndex, LabelOfCoded, CodedOfLabel, SameCoded, LabelPlaces}
+use Rattle.chain.proofs.Counts.{bits-some}
 use Rattle.chain.proofs.ParserLaws.{parses}
 use Rattle.chain.proofs.InterleaverLaws.{interleaves-plan}
-
-abbrev bitsClaim : Claim
-bitsClaim = each bitCounts λ b. 0 under b
-
-some-bits : Holds bitsClaim
-some-bits = sound bitsClaim tt
 
 module _ (p : Plan) (f : Fits p) where
   parsing : Parses p
   parsing = parses p f
-
-  bits-some : 0 < p .bits
-  bits-some = some-bits (p .bits) (f .bits)
 
   -- every coded bit of a symbol is in a label place of one stream, and the place gives it back
   pub label-of-coded : (j y : ℕ) → j < p .encoders → y < share p → LabelOfCoded p j y
@@ -37,8 +28,8 @@ module _ (p : Plan) (f : Fits p) where
       record {
         stream-lt = h;
         place-lt = place-lt;
-        carrier-lt = div-lt-iff-lt-mul {k = p .bits} bits-some .1 (rw (f .block-is) at place-lt);
-        bit-lt = mod-lt (codedPlace p j y) bits-some;
+        carrier-lt = div-lt-iff-lt-mul {k = p .bits} (bits-some (p .bits) (f .bits)) .1 (rw (f .block-is) at place-lt);
+        bit-lt = mod-lt (codedPlace p j y) (bits-some (p .bits) (f .bits));
         encoder-back = ap (encoderOf (axisBits (p .bits)) (p .encoders)) (t .source-place bit bit-lt) ∙ parsing .encoder-back j y hj;
         index-back =
             ap (indexOf (axisBits (p .bits)) (p .streams) (p .encoders) (codedStream p y)) (t .source-place bit bit-lt) ∙ parsing .index-back j y hj;

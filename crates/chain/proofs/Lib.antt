@@ -1,4 +1,5 @@
 pub mod Plans
+pub mod Counts
 pub mod ScramblerLaws
 pub mod InputLaws
 pub mod KeptLaws

@@ -15,7 +15,8 @@ use Rattle.chain.specs.Plan.{keptCounts}
 use Rattle.chain.specs.Encoder.{tap}
 use Rattle.chain.specs.Puncture.{keptStep, keptBit}
 use Rattle.chain.specs.Decoder.{historyOf, pushed, historyAfter, sumAfter, codedAfter, dealt}
-use Rattle.chain.proofs.KeptLaws.{kept-low, kept-form, sumAt}
+use Rattle.chain.proofs.Counts.{kept-low}
+use Rattle.chain.proofs.KeptLaws.{kept-form, sumAt}
 use Rattle.chain.proofs.Window.{shift-place, shift-step}
 use Rattle.chain.proofs.History.{history-A, history-B, history-moves}
 use Rattle.chain.proofs.Dealing.{history-ext, coded-ext}

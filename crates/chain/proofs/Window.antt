@@ -8,15 +8,15 @@ use native.Mathlib.Omega.{arith}
 use lib.Dec.{T}
 use borrow.Author.Tests.{lt-ltb, le-ltb}
 use Rattle.laws.specs.Test.{among}
-use Rattle.laws.specs.Claim.{Claim, _under_, _and_, each, Holds, sound}
 use Rattle.laws.proofs.Radix.{quot-of}
 use Rattle.laws.proofs.Search.{lt-or-le}
 use Rattle.chain.specs.declared.plan.Plan.{Plan}
-use Rattle.chain.specs.Plan.{keptCounts, encoderCounts, groupsOf, Fits}
+use Rattle.chain.specs.Plan.{keptCounts, groupsOf, Fits}
 use Rattle.chain.specs.Encoder.{tap, lineTap, withHistory}
 use Rattle.chain.specs.Puncture.{keptStep, keptBit, lineKept}
 use Rattle.chain.specs.Labels.{share, codedBit}
-use Rattle.chain.proofs.KeptLaws.{kept-low, kept-form, kept-ext, sum-ext, step-below}
+use Rattle.chain.proofs.Counts.{encoders-some, kept-low}
+use Rattle.chain.proofs.KeptLaws.{kept-form, kept-ext, sum-ext, step-below}
 
 -- the history is the zeros before the start
 line-tap : (x : ℕ → ℕ) (e j t k : ℕ) → j < e → k ≤ 6 → lineTap (withHistory x e) e j t k ≡ tap x e j t k
@@ -84,28 +84,13 @@ same-window l m e q g j i c h r same =
     omega (arith, tap-at e (keptStep q i) j k b)
     ))
 
--- the numbers of encoders
-abbrev encoderClaim : Claim
-encoderClaim = each encoderCounts λ e. 0 under e and e under 3
-
-encoders-are : Holds encoderClaim
-encoders-are = sound encoderClaim tt
-
 quotient : (c e s : ℕ) → 1 ≤ e → c ≡ e * s → c / e ≡ s
 quotient c e s h f = quot-of e s 0 c h (f ∙ rw (mul-comm e s) (omega arith))
 
 module _ (p : Plan) (fits : Fits p) where
-  -- a plan has an encoder
-  pub encoders-some : 1 ≤ p .encoders
-  encoders-some = encoders-are (p .encoders) (fits .encoders) .0
-
-  -- and at most two
-  pub encoders-most : p .encoders ≤ 2
-  encoders-most = omega (arith, encoders-are (p .encoders) (fits .encoders) .1)
-
   -- an encoder's share of a symbol is whole groups
   pub share-is : share p ≡ p .kept * groupsOf p
-  share-is = quotient (p .coded) (p .encoders) (p .kept * groupsOf p) encoders-some (fits .coded-groups)
+  share-is = quotient (p .coded) (p .encoders) (p .kept * groupsOf p) (encoders-some (p .encoders) (fits .encoders)) (fits .coded-groups)
 
   -- symbol n of the frame is a window of the one long code
   pub symbol-window : (x : ℕ → ℕ) (n j y : ℕ) → j < p .encoders

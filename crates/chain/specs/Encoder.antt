@@ -10,7 +10,7 @@ sumA u = (u 0 + u 2 + u 3 + u 5 + u 6) % 2
 abbrev pub sumB : (u : ℕ → ℕ) → ℕ
 sumB u = (u 0 + u 1 + u 2 + u 3 + u 6) % 2
 
--- "Bit d goes to encoder d mod NES. Each starts at zero": what encoder j got k steps before step t
+-- "Bit d goes to encoder d mod NES. Each starts at zero": step t of encoder j takes bit NES·t + j; what it got k steps before step t
 unfoldable pub tap : (x : ℕ → ℕ) (encoders j t k : ℕ) → ℕ
 tap x encoders j t k = cond (ltb t k) 0 (x (encoders * (t - k) + j))
 
@@ -18,5 +18,6 @@ tap x encoders j t k = cond (ltb t k) 0 (x (encoders * (t - k) + j))
 unfoldable pub withHistory : (x : ℕ → ℕ) (encoders e : ℕ) → ℕ
 withHistory x encoders e = cond (ltb e (6 * encoders)) 0 (x (e - 6 * encoders))
 
+-- what encoder j got k steps before its step t, off such a line from any symbol's first place on
 abbrev pub lineTap : (line : ℕ → ℕ) (encoders j t k : ℕ) → ℕ
 lineTap line encoders j t k = line (encoders * (t + 6 - k) + j)

@@ -13,7 +13,8 @@ use Rattle.chain.specs.Encoder.{withHistory}
 use Rattle.chain.specs.Parser.{axisBits}
 use Rattle.chain.specs.Interleaver.{source}
 use Rattle.chain.specs.Labels.{share, codedBit, streamBit, labelBit, halfLabel}
-use Rattle.chain.proofs.Window.{encoders-most, share-is, symbol-window, window-only}
+use Rattle.chain.proofs.Counts.{encoders-most}
+use Rattle.chain.proofs.Window.{share-is, symbol-window, window-only}
 use Rattle.chain.proofs.ParserLaws.{parses}
 use Rattle.chain.proofs.InterleaverLaws.{interleaves-plan}
 use Rattle.chain.proofs.LabelLaws.{label-bit, half-below, written-from}
@@ -33,7 +34,7 @@ pub record Sizes (p : Plan) (n : ℕ) : Type 0 where
 pub sizes : (p : Plan) (n : ℕ) → Fits p → n ≤ 32768 → Sizes p n
 sizes p n f h =
     record {
-      two = encoders-most p f;
+      two = encoders-most (p .encoders) (f .encoders);
       data-some = f .dbps-some;
       data-most = f .dbps-most;
       first = omega (arith, mul-le-mul h (f .dbps-most));

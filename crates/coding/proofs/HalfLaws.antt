@@ -22,8 +22,9 @@ use Rattle.chain.specs.Interleaver.{rotation, blockOf, shiftOf, source}
 use Rattle.chain.specs.Labels.{written, halvesOf}
 use Rattle.chain.proofs.ParserLaws.{parses}
 use Rattle.chain.proofs.InterleaverLaws.{shift-lt, source-shift, stream-below-four, plan-block, interleaves-plan}
-use Rattle.chain.proofs.LabelLaws.{written-from}
-use Rattle.coding.specs.Sources.{codedPlace, labelSource}
+use Rattle.chain.proofs.Counts.{bits-some}
+use Rattle.chain.proofs.LabelLaws.{written-from, halves-most}
+use Rattle.coding.specs.Sources.{codedSlot, labelSource}
 use Rattle.coding.specs.Halves.{halfAt, labelIn, halfIn, HalfAsked, RunAsked, HalvesFilled}
 use Rattle.coding.proofs.SourceLaws.{small, axis-known}
 
@@ -84,7 +85,7 @@ abbrev pub Counted : (bits carriers n : ℕ) → Type 0
 Counted bits carriers n = (bits < 2 → n ≡ carriers) × (2 ≤ bits → n ≡ 2 * carriers)
 
 abbrev axisClaim : Claim
-axisClaim = each bitCounts λ b. 0 under b and given b 1 (axisBits b is 1) and unless b 1 (b is 2 * axisBits b)
+axisClaim = each bitCounts λ b. given b 1 (axisBits b is 1) and unless b 1 (b is 2 * axisBits b)
 
 axes : Holds axisClaim
 unfolding axisBits
@@ -94,15 +95,15 @@ axes = sound axisClaim tt
 halves-times : (b c n : ℕ) → T (among bitCounts b) → Counted b c n → n * axisBits b ≡ c * b
 halves-times b c n h e = ⊎-elim
     (λ (l : b < 2).
-    let one : b ≡ 1 = omega (arith, axes b h .0) in
-    ap₂ (λ (x y : ℕ). x * y) (e .0 l) (axes b h .1 .0 one ∙ sym one))
+    let one : b ≡ 1 = omega (arith, bits-some b h) in
+    ap₂ (λ (x y : ℕ). x * y) (e .0 l) (axes b h .0 one ∙ sym one))
     (λ (l : 2 ≤ b).
     let regroup : 2 * c * axisBits b ≡ c * (2 * axisBits b) = omega arith in
-    ap (λ (x : ℕ). x * axisBits b) (e .1 l) ∙ regroup ∙ ap (λ (x : ℕ). c * x) (sym (axes b h .1 .1 (λ q. omega (arith, q)))))
+    ap (λ (x : ℕ). x * axisBits b) (e .1 l) ∙ regroup ∙ ap (λ (x : ℕ). c * x) (sym (axes b h .1 (λ q. omega (arith, q)))))
     (lt-or-le b 2)
 
-halves-most : (b c n : ℕ) → Counted b c n → n ≤ 2 * c
-halves-most b c n e = ⊎-elim (λ (l : b < 2). omega (arith, e .0 l)) (λ (l : 2 ≤ b). omega (arith, e .1 l)) (lt-or-le b 2)
+counted-most : (b c n : ℕ) → Counted b c n → n ≤ 2 * c
+counted-most b c n e = ⊎-elim (λ (l : b < 2). omega (arith, e .0 l)) (λ (l : 2 ≤ b). omega (arith, e .1 l)) (lt-or-le b 2)
 
 abbrev turnClaim : Claim
 turnClaim = each widths λ w. carriersOf w under 109 and upTo 4 λ i. (i * 2 % 3 + 3 * (i / 3)) * rotation w under 109
@@ -130,7 +131,7 @@ pub record TwoRuns (begin count first to from n to′ from′ n′ : ℕ) : Type
   pub all : n + n′ ≡ count
 
 -- bit k of stream i stands i·s places behind that of stream 0
-place-shift : (s streams encoders i k : ℕ) → codedPlace s streams encoders 0 k + i * s ≡ codedPlace s streams encoders i k
+place-shift : (s streams encoders i k : ℕ) → codedSlot s streams encoders 0 k + i * s ≡ codedSlot s streams encoders i k
 unfolding indexOf
 place-shift s streams encoders i k = omega arith
 
@@ -174,7 +175,7 @@ module _ (p : Plan) (f : Fits p) where
           whole = whole;
           shift-is = shift-is;
           less = ⊎-elim (λ (l : first < count). l) (λ (l : count ≤ first). absurd (omega (arith, below, mul-le-mul-right s l))) (lt-or-le first count);
-          few = omega (arith, halves-most (p .bits) (p .carriers) count counted, carriers-few);
+          few = omega (arith, counted-most (p .bits) (p .carriers) count counted, carriers-few);
         }
 
     module _ {s count first : ℕ} (t : Turned p i s count first) where
@@ -186,9 +187,7 @@ module _ (p : Plan) (f : Fits p) where
 
       -- and those are few
       pub stream-near : i * count + count ≤ 864
-      stream-near =
-          let more : (i + 1) * count ≤ 4 * 216 = mul-le-mul {n₂ = 4} {m₂ = 216} (omega (arith, stream-below-four p f i hi)) (t .few) in
-          omega (arith, more)
+      stream-near = omega (arith, stream-room, halves-most p f)
 
       -- a stream's bits stand a few places on
       pub shift-few : i * s ≤ 12
@@ -197,7 +196,7 @@ module _ (p : Plan) (f : Fits p) where
       module _ (table : List ℕ) (tabled : (r : ℕ) → r < p .block → getD table r 0 ≡ labelSource p r) where
         -- the table's place r, as many places on, is a place of stream i
         there : (r : ℕ) → r < p .block
-            → getD table r 0 + i * s ≡ codedPlace (axisBits (p .bits)) (p .streams) (p .encoders) i (source (p .width) (p .bits) 0 r)
+            → getD table r 0 + i * s ≡ codedSlot (axisBits (p .bits)) (p .streams) (p .encoders) i (source (p .width) (p .bits) 0 r)
         there r l =
             ap₂ (λ (x y : ℕ). x + i * y) (tabled r l) (t .axis-is)
             ∙ place-shift (axisBits (p .bits)) (p .streams) (p .encoders) i (source (p .width) (p .bits) 0 r)
@@ -218,7 +217,7 @@ module _ (p : Plan) (f : Fits p) where
 
         -- the table's place that is bit r of stream i: the rotation on, and round
         turned-bit : (r r′ g : ℕ) → r < p .block → r′ < p .block → r + shiftOf (p .width) (p .bits) i ≡ g * p .block + r′
-            → getD table r′ 0 + i * s ≡ codedPlace (axisBits (p .bits)) (p .streams) (p .encoders) i (source (p .width) (p .bits) i r)
+            → getD table r′ 0 + i * s ≡ codedSlot (axisBits (p .bits)) (p .streams) (p .encoders) i (source (p .width) (p .bits) i r)
         turned-bit r r′ g l l′ e =
             let w = p .width in
             let b = p .bits in
@@ -227,7 +226,7 @@ module _ (p : Plan) (f : Fits p) where
             rem-of (blockOf w b) g r′ (r + shiftOf w b i) (omega arith) (e ∙ ap (λ (x : ℕ). g * x + r′) block-is) in
             let same : source w b i r ≡ source w b 0 r′ =
             source-shift w b i (f .width) (f .bits) (stream-below-four p f i hi) r (omega arith) ∙ ap (source w b 0) on in
-            there r′ l′ ∙ ap (λ (k : ℕ). codedPlace (axisBits b) (p .streams) (p .encoders) i k) (sym same)
+            there r′ l′ ∙ ap (λ (k : ℕ). codedSlot (axisBits b) (p .streams) (p .encoders) i k) (sym same)
 
         -- and so for its half labels
         turned-half : (coded : List ℕ) (m m′ g : ℕ) → m < count → m′ < count → m + first ≡ g * count + m′

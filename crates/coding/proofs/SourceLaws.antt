@@ -11,12 +11,13 @@ use Rattle.laws.specs.Test.{among, every-at}
 use Rattle.laws.specs.Claim.{Claim, _is_, _under_, _and_, upTo, each, unless, Holds, sound}
 use Rattle.laws.specs.Filled.{Filled}
 use Rattle.laws.proofs.Filling.{fill-at}
-use Rattle.chain.specs.Plan.{widths, bitCounts, streamCounts, encoderCounts, Fits}
+use Rattle.chain.specs.Plan.{widths, bitCounts, Fits}
 use Rattle.chain.specs.declared.plan.Plan.{Plan}
 use Rattle.chain.specs.Parser.{axisBits}
 use Rattle.chain.specs.Interleaver.{columns, rows, rotation, blockOf, shiftOf, source, unrotated, unalternated, byRows, sourceForm}
+use Rattle.chain.proofs.Counts.{width-most, bits-most, streams-most, encoders-most, axis-some, axis-most}
 use Rattle.chain.proofs.InterleaverLaws.{source-is, interleaves, plan-block}
-use Rattle.coding.specs.Sources.{codedPlace, labelSource}
+use Rattle.coding.specs.Sources.{codedSlot, labelSource}
 
 -- bit r at width w, B bits a carrier: f is the closed inverse of stream 0
 abbrev formClaim : (w b : ℕ) (f : ℕ → ℕ) → Claim
@@ -111,33 +112,12 @@ smalls = sound smallClaim tt
 pub block-most : (w b : ℕ) → T (among widths w) → T (among bitCounts b) → blockOf w b ≤ 648
 block-most w b hw hb = omega (arith, smalls w hw b hb)
 
-abbrev sixClaim : Claim
-sixClaim = each bitCounts λ b. unless b 1 (unless b 2 (unless b 4 (b is 6)))
-
--- the last number of bits a carrier has
-pub six-left : Holds sixClaim
-six-left = sound sixClaim tt
-
-abbrev twentyClaim : Claim
-twentyClaim = each widths λ w. unless w 40 (w is 20)
-
--- the other width
-pub twenty-left : Holds twentyClaim
-twenty-left = sound twentyClaim tt
-
 abbrev threeClaim : Claim
 threeClaim = each (1 ∷ 2 ∷ 3 ∷ []) λ s. unless s 1 (unless s 2 (s is 3))
 
 -- the last number of bits an axis has
 pub three-left : Holds threeClaim
 three-left = sound threeClaim tt
-
-abbrev twoClaim : Claim
-twoClaim = each encoderCounts λ e. unless e 1 (e is 2)
-
--- the other number of encoders
-pub two-left : Holds twoClaim
-two-left = sound twoClaim tt
 
 -- products by a number of streams are small
 pub streams-times : (streams k most : ℕ) → streams ≤ 4 → k ≤ most → streams * k ≤ 4 * most
@@ -153,26 +133,17 @@ pub record Small (p : Plan) : Type 0 where
   pub axis-most : axisBits (p .bits) ≤ 3
   pub block : p .block ≤ 648
 
-abbrev numberClaim : Claim
-numberClaim = each widths λ w. each bitCounts λ b. each streamCounts λ n. each encoderCounts λ e.
-    w under 41 and b under 7 and n under 5 and e under 3 and 0 under axisBits b and axisBits b under 4
-
-numbers : Holds numberClaim
-unfolding axisBits
-numbers = sound numberClaim tt
-
 module _ (p : Plan) (f : Fits p) where
   -- every plan's numbers are small
   pub small : Small p
   small =
-      let c = numbers (p .width) (f .width) (p .bits) (f .bits) (p .streams) (f .streams) (p .encoders) (f .encoders) in
       record {
-        width = omega (arith, c .0);
-        bits = omega (arith, c .1 .0);
-        streams = omega (arith, c .1 .1 .0);
-        encoders = omega (arith, c .1 .1 .1 .0);
-        axis-least = c .1 .1 .1 .1 .0;
-        axis-most = omega (arith, c .1 .1 .1 .1 .1);
+        width = width-most (p .width) (f .width);
+        bits = bits-most (p .bits) (f .bits);
+        streams = streams-most (p .streams) (f .streams);
+        encoders = encoders-most (p .encoders) (f .encoders);
+        axis-least = axis-some (p .bits) (f .bits);
+        axis-most = axis-most (p .bits) (f .bits);
         block = omega (arith, plan-block p f, block-most (p .width) (p .bits) (f .width) (f .bits));
       }
 
@@ -191,13 +162,13 @@ module _ (p : Plan) (f : Fits p) where
 -- the sources of stream 0, parsed in place, are the table
 pub parsed-table : (p : Plan) (s : ℕ) (d₀ d₁ d₂ : List ℕ) → s ≡ axisBits (p .bits)
     → Filled 0 0 (λ r. source (p .width) (p .bits) 0 r) (p .block) d₀ d₁
-    → Filled 0 0 (λ r. codedPlace s (p .streams) (p .encoders) 0 (getD d₁ r 0)) (p .block) d₁ d₂
+    → Filled 0 0 (λ r. codedSlot s (p .streams) (p .encoders) 0 (getD d₁ r 0)) (p .block) d₁ d₂
     → Filled 0 0 (λ r. labelSource p r) (p .block) d₀ d₂
 parsed-table p s d₀ d₁ d₂ e one two = record {
   same = two .same ∙ one .same;
   done = λ r l.
       let at : getD d₁ r 0 ≡ source (p .width) (p .bits) 0 r = fill-at 0 (λ k. source (p .width) (p .bits) 0 k) one r l in
-      let there : codedPlace s (p .streams) (p .encoders) 0 (getD d₁ r 0) ≡ labelSource p r = rw (e, at) in
+      let there : codedSlot s (p .streams) (p .encoders) 0 (getD d₁ r 0) ≡ labelSource p r = rw (e, at) in
       two .done r l ∙ there;
   before = λ i l. two .before i l ∙ one .before i l;
   after = λ i l. two .after i l ∙ one .after i l;

@@ -10,7 +10,7 @@ use Rattle.chain.specs.declared.plan.Plan.{Plan}
 use Rattle.chain.specs.Parser.{axisBits}
 use Rattle.chain.specs.Interleaver.{source}
 use Rattle.chain.specs.Labels.{written, halvesOf}
-use Rattle.coding.specs.Sources.{codedPlace, labelSource}
+use Rattle.coding.specs.Sources.{codedSlot, labelSource}
 
 -- half m through a table of places, `shift` places on: s bits, the first the highest
 abbrev pub halfAt : (coded table : List ℕ) (s shift m : ℕ) → ℕ
@@ -18,7 +18,7 @@ halfAt coded table s shift m = written (λ r. getD coded (getD table r 0 + shift
 
 -- the coded bit that is bit r of stream i's interleaved block
 abbrev pub labelIn : (p : Plan) (coded : List ℕ) (i r : ℕ) → ℕ
-labelIn p coded i r = getD coded (codedPlace (axisBits (p .bits)) (p .streams) (p .encoders) i (source (p .width) (p .bits) i r)) 0 % 2
+labelIn p coded i r = getD coded (codedSlot (axisBits (p .bits)) (p .streams) (p .encoders) i (source (p .width) (p .bits) i r)) 0 % 2
 
 abbrev pub halfIn : (p : Plan) (coded : List ℕ) (i m : ℕ) → ℕ
 halfIn p coded i m = written (labelIn p coded i) (m * axisBits (p .bits)) (axisBits (p .bits))

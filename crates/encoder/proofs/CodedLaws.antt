@@ -7,22 +7,13 @@ use native.Mathlib.Nat.{mul-le-mul, mul-le-mul-right}
 use native.Mathlib.Decide.{ℕ-discrete}
 use native.Mathlib.Omega.{arith}
 use lib.ListN.{getD}
-use Rattle.laws.specs.Claim.{Claim, _is_, _under_, _and_, each, unless, Holds, sound}
 use Rattle.laws.specs.Filled.{Filled}
 use Rattle.laws.proofs.Filling.{fill-at, fill-as}
-use Rattle.chain.specs.Plan.{encoderCounts, keptCounts}
 use Rattle.chain.specs.Puncture.{lineKept}
-use Rattle.chain.proofs.KeptLaws.{kept-low, kept-high}
+use Rattle.chain.proofs.Counts.{encoders-some, encoders-most, encoders-not-two, kept-low, kept-high}
 use Rattle.encoder.specs.Sums.{Sums}
 use Rattle.encoder.specs.Coded.{sumPlace, CodedAsked, Coded}
 use Rattle.encoder.proofs.SumLaws.{place-is, input-few, sum-kept}
-
-abbrev otherClaim : Claim
-otherClaim = each keptCounts λ q. unless q 2 (unless q 3 (unless q 4 (q is 6)))
-
--- the rate that is none of the first three
-pub otherwise-six : Holds otherClaim
-otherwise-six = sound otherClaim tt
 
 -- the place, from the parity in the group and the step
 pub place-by : (q q' e y half step : ℕ) → q ≡ q' → half ≡ y % q' % 2 → step ≡ (q' - 1) * (y / q') + (y % q' - 1)
@@ -39,12 +30,6 @@ product-few e s h l =
 pub place-few : (half e s : ℕ) → half < 2 → e ≤ 2 → s < 2592 → half * 2160 + e * s < 7344
 place-few half e s b h l = omega (arith, product-few e s h l)
 
-abbrev encodersClaim : Claim
-encodersClaim = each encoderCounts λ e. 0 under e and e under 3 and unless e 2 (e is 1)
-
-encoders-are : Holds encodersClaim
-encoders-are = sound encodersClaim tt
-
 -- what holds of the sizes of a symbol that is asked for
 pub record Sizes (encoders kept groups : ℕ) : Type 0 where
   pub one : 1 ≤ encoders
@@ -59,17 +44,16 @@ pub record Sizes (encoders kept groups : ℕ) : Type 0 where
 -- those sizes
 pub sizes : {coded line : List ℕ} {e q g : ℕ} → CodedAsked coded line e q g → Sizes e q g
 sizes {e = e} {q = q} {g = g} p =
-    let n = encoders-are e (p .one-or-two) in
-    let one : 1 ≤ e = omega arith in
+    let one : 1 ≤ e = encoders-some e (p .one-or-two) in
     record {
       one = one;
-      two = omega arith;
+      two = encoders-most e (p .one-or-two);
       low = kept-low q (p .rate);
       high = kept-high q (p .rate);
       share = omega (arith, mul-le-mul-right (q * g) one);
       steps = omega (arith, mul-le-mul-right ((q - 1) * g) one);
       halved = λ h. omega (arith, rw h at (p .fits));
-      otherwise = n .1 .1;
+      otherwise = encoders-not-two e (p .one-or-two);
     }
 
 module _ (coded line : List ℕ) (e q g : ℕ) (asked : CodedAsked coded line e q g) where

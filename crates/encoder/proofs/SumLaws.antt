@@ -16,7 +16,8 @@ use Rattle.laws.proofs.Filling.{fill-at}
 use Rattle.chain.specs.Plan.{keptCounts}
 use Rattle.chain.specs.Encoder.{sumA, sumB, lineTap}
 use Rattle.chain.specs.Puncture.{keptStep, lineKept}
-use Rattle.chain.proofs.KeptLaws.{kept-low, kept-form, step-below}
+use Rattle.chain.proofs.Counts.{kept-low}
+use Rattle.chain.proofs.KeptLaws.{kept-form, step-below}
 use Rattle.chain.proofs.Window.{tap-at, at-below}
 use Rattle.encoder.specs.Sums.{xorA, xorB, Sums}
 use Rattle.encoder.specs.Coded.{sumPlace}

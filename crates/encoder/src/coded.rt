@@ -34,12 +34,6 @@ fn sum_places(places: &mut [u16], kept: u16, encoders: u16, count: u16)
     }
 }
 
-fn wide(place: u16) -> usize
-    ensures { λ r. ⌜ r ≡ place ⌝ }
-{
-    place as usize
-}
-
 // The bits of encoder j: its sums stand j places after those of encoder 0.
 fn pick(coded: &mut [u8], sums: &[u8], places: &[u16], to: usize, j: usize, count: usize)
     requires { ⌜ PickAsked (now coded) (now sums) (now places) to j count ⌝ }
@@ -47,7 +41,7 @@ fn pick(coded: &mut [u8], sums: &[u8], places: &[u16], to: usize, j: usize, coun
 {
     let mut y: usize = 0;
     while y < count {
-        coded[to + y] = sums[wide(places[y]) + j];
+        coded[to + y] = sums[places[y] as usize + j];
         y += 1;
     }
 }

@@ -7,28 +7,16 @@ use native.Mathlib.Nat.{zero-add, add-assoc}
 use lib.Bits.{bitXor}
 use lib.ListN.{getD}
 use borrow.Author.Tests.{lt-ltb, le-ltb}
-use Rattle.laws.specs.Claim.{Claim, _is_, _under_, each, upTo, Holds, sound}
+use Rattle.laws.specs.Claim.{Claim, _is_, upTo, Holds, sound}
 use Rattle.laws.specs.Filled.{Filled}
 use Rattle.laws.proofs.Filling.{fill-at, fill-from, fill-as, fill-join, fill-end}
 use Rattle.laws.proofs.Search.{parts}
-use Rattle.chain.specs.Plan.{encoderCounts}
 use Rattle.chain.specs.Scrambler.{scramblerBit, stateAt}
 use Rattle.chain.specs.DataBits.{payloadBit, payloadEnd, tailEnd, dataBit, coderInput}
 use Rattle.chain.specs.Encoder.{withHistory}
 use Rattle.chain.proofs.ScramblerLaws.{output-on}
 use Rattle.chain.proofs.InputLaws.{input-before, input-tail, input-after, line-head, line-on}
-use Rattle.inputs.specs.Asked.{InputsAsked, DataFilled, mixedBit}
-
--- one or two encoders are at most two
-abbrev fewClaim : Claim
-fewClaim = each encoderCounts λ e. e under 3
-
-few : Holds fewClaim
-few = sound fewClaim tt
-
-pub few-encoders : {line payload : List ℕ} {bytes encoders seed first count : ℕ}
-    → InputsAsked line payload bytes encoders seed first count → encoders ≤ 2
-few-encoders {encoders = encoders} asked = omega (arith, few encoders (asked .one-or-two))
+use Rattle.inputs.specs.Asked.{DataFilled, mixedBit}
 
 module _ (raw outputs : ℕ → ℕ) (tail pad t : ℕ) where
   -- before the tail, in it and after it

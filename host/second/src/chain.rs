@@ -96,7 +96,7 @@ fn part(kept: &[u8], share: usize, symbol: usize) -> Vec<u8> {
 mod tests {
     use super::*;
     use crate::rates::{block, data_bits_per_symbol, data_carriers};
-    use crate::samples::{bits, settings};
+    use crate::samples::{all_wrong, bits, other_format_and_flags, settings};
 
     /// Byte j is 37·j + 11 modulo 256.
     fn some_bytes(count: u32) -> Vec<u8> {
@@ -415,14 +415,7 @@ mod tests {
     #[test]
     fn format_flags_and_bytes_past_the_length_play_no_part() {
         let s = settings(25, 40, 9, 77);
-        let other = Settings {
-            format: 1,
-            smoothing: false,
-            not_sounding: false,
-            aggregation: true,
-            short_guard: true,
-            ..s
-        };
+        let other = other_format_and_flags(&s);
         let mut longer = some_bytes(9);
         longer.extend([0xFF; 5]);
         let want = frame_labels(&s, &some_bytes(9)).unwrap();
@@ -432,14 +425,7 @@ mod tests {
     #[test]
     fn refusals_1_to_7_in_order() {
         // All is wrong at first; one fault after the other is mended.
-        let mut s = Settings {
-            width: 276,
-            mcs: 256,
-            format: 256,
-            length: 65_537,
-            seed: 129,
-            ..settings(0, 20, 1, 1)
-        };
+        let mut s = all_wrong();
         let refused = |s: &Settings, payload: &[u8], symbol: u64| {
             let refused = symbol_labels(s, payload, symbol).map(|_| ());
             if refused != Err(7) {

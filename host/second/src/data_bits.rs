@@ -60,7 +60,7 @@ pub fn data_bits(s: &Settings, payload: &[u8]) -> Result<Vec<u8>, u32> {
 mod tests {
     use super::*;
     use crate::rates::symbol_count;
-    use crate::samples::{bits, settings};
+    use crate::samples::{all_wrong, bits, other_format_and_flags, settings};
     use crate::scrambler::scrambler_sequence;
 
     fn some_bytes(count: u32) -> Vec<u8> {
@@ -270,28 +270,14 @@ mod tests {
     #[test]
     fn format_and_flags_play_no_part() {
         let s = settings(17, 40, 3, 9);
-        let other = Settings {
-            format: 1,
-            smoothing: false,
-            not_sounding: false,
-            aggregation: true,
-            short_guard: true,
-            ..s
-        };
+        let other = other_format_and_flags(&s);
         assert!(data_bits(&s, &[1, 2, 3]).is_ok());
         assert_eq!(data_bits(&s, &[1, 2, 3]), data_bits(&other, &[1, 2, 3]));
     }
 
     #[test]
     fn refusals_1_to_6_in_order() {
-        let mut s = Settings {
-            width: 276,
-            mcs: 256,
-            format: 256,
-            length: 65_537,
-            seed: 129,
-            ..settings(0, 20, 1, 1)
-        };
+        let mut s = all_wrong();
         let both = |s: &Settings, payload: &[u8]| {
             let refused = data_bits(s, payload).map(|_| ());
             assert_eq!(plain_bits(s, payload).map(|_| ()), refused);

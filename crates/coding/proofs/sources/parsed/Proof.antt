@@ -4,7 +4,8 @@ use native.Mathlib.Nat.{div-one}
 use native.Mathlib.Omega.{arith}
 use borrow.Author.Needs.{needs}
 use Rattle.chain.specs.Parser.{encoderOf, indexOf}
-use Rattle.coding.proofs.SourceLaws.{three-left, two-left, streams-times}
+use Rattle.chain.proofs.Counts.{encoders-not-one}
+use Rattle.coding.proofs.SourceLaws.{three-left, streams-times}
 use Rattle.coding.proofs.sources.parsed.Statement.{statement}
 use Rattle.coding.proofs.sources.parsed.Tie as tie
 
@@ -32,14 +33,14 @@ returns-4 : tie.Need-returns-4
 unfolding encoderOf indexOf
 returns-4 c =
     let a = c .before .before in
-    rw (two-left (a .args .encoders) (a .pre .one-or-two) (c .before .if1 .left), c .if4 .taken) (omega arith)
+    rw (encoders-not-one (a .args .encoders) (a .pre .one-or-two) (c .before .if1 .left), c .if4 .taken) (omega arith)
 
 -- two encoders, two bits
 returns-5 : tie.Need-returns-5
 unfolding encoderOf indexOf
 returns-5 c =
     let a = c .before .before .before in
-    rw (two-left (a .args .encoders) (a .pre .one-or-two) (c .before .before .if1 .left), c .if5 .taken) (omega arith)
+    rw (encoders-not-one (a .args .encoders) (a .pre .one-or-two) (c .before .before .if1 .left), c .if5 .taken) (omega arith)
 
 -- two encoders, three bits
 returns-6 : tie.Need-returns-6
@@ -47,7 +48,7 @@ unfolding encoderOf indexOf
 returns-6 c =
     let a = c .before .before .before in
     rw (
-      two-left (a .args .encoders) (a .pre .one-or-two) (c .before .before .if1 .left),
+      encoders-not-one (a .args .encoders) (a .pre .one-or-two) (c .before .before .if1 .left),
       three-left (a .args .s) (a .pre .axis) (c .before .if4 .left) (c .if5 .left),
     ) (omega arith)
 

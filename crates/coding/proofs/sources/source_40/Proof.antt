@@ -1,6 +1,7 @@
 use native.Mathlib.Omega.{arith}
 use borrow.Author.Needs.{needs}
-use Rattle.coding.proofs.SourceLaws.{source-40-1, source-40-2, source-40-4, source-40-6, block-most, six-left}
+use Rattle.chain.proofs.Counts.{bits-other}
+use Rattle.coding.proofs.SourceLaws.{source-40-1, source-40-2, source-40-4, source-40-6, block-most}
 use Rattle.coding.proofs.sources.source_40.Statement.{statement}
 use Rattle.coding.proofs.sources.source_40.Tie as tie
 
@@ -57,7 +58,7 @@ add-result-8 c = search needs
 
 returns-4 : tie.Need-returns-4
 returns-4 c = let a = c .before .before .before in
-    source-40-6 _ _ (six-left (a .args .bits) (a .pre .known-bits) (c .before .before .if1 .left) (c .before .if2 .left) (c .if3 .left)) (a .pre .inside)
+    source-40-6 _ _ (bits-other (a .args .bits) (a .pre .known-bits) (c .before .before .if1 .left) (c .before .if2 .left) (c .if3 .left)) (a .pre .inside)
 
 pub source-40-spec : {M : Type 1} → statement M
 source-40-spec =

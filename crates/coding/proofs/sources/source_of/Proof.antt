@@ -1,4 +1,4 @@
-use Rattle.coding.proofs.SourceLaws.{twenty-left}
+use Rattle.chain.proofs.Counts.{width-other}
 use Rattle.coding.proofs.sources.source_of.Statement.{statement}
 use Rattle.coding.proofs.sources.source_of.Tie as tie
 
@@ -14,11 +14,11 @@ source-20-requires c κs =
     record {
       known-width = tt;
       known-bits = a .pre .known-bits;
-      inside = rw (twenty-left _ (a .pre .known-width) (c .if1 .left)) at (a .pre .inside);
+      inside = rw (width-other _ (a .pre .known-width) (c .if1 .left)) at (a .pre .inside);
     }
 
 returns-2 : tie.Need-returns-2
-returns-2 c = rw (twenty-left _ (c .before .before .pre .known-width) (c .before .if1 .left)) (c .source-20 .ensures)
+returns-2 c = rw (width-other _ (c .before .before .pre .known-width) (c .before .if1 .left)) (c .source-20 .ensures)
 
 pub source-of-spec : {M : Type 1} → statement M
 source-of-spec = tie.close (tie.spec source-40-requires returns source-20-requires returns-2)

@@ -1,12 +1,12 @@
 -- `encoder::coded::pick`: the loop's store of the sum at each place fills the coded bits. Assumes nothing.
-use mathlib.Core.Path.{refl, ap}
-use Prim.Native.Nat.{ℕ, _+_, _-_, _<_, _≤_}
+use mathlib.Core.Path.{refl}
+use Prim.Native.Nat.{_+_, _-_, _<_, _≤_}
 use native.Mathlib.Omega.{arith}
 use lib.ListN.{getD}
-use borrow.Author.Needs.{needs}
 use denote.Ref.{now}
 use Rattle.laws.specs.Filled.{Filled}
 use Rattle.laws.proofs.Filling.{fill-none, fill-more, fill-end}
+use borrow.Author.Needs.{needs}
 use Rattle.encoder.proofs.coded.pick.Statement.{statement}
 use Rattle.encoder.proofs.coded.pick.Tie as tie
 
@@ -17,40 +17,29 @@ abbrev μ-loop : tie.MeasureT-loop
 μ-loop coded₀ sums places to j count y₀ coded y = count - y
 
 abbrev start : tie.In-loop Inv-loop μ-loop → tie.Start Inv-loop μ-loop
-start c = c .before .before .before .before .before
+start c = c .before .before
 
 -- the place that a turn reads
 abbrev inside : (c : tie.In-loop Inv-loop μ-loop) → getD (now (start c .args .places)) (c .before .loop .y) 0 + start c .args .j < 4320
 inside c = start c .pre .inside (c .before .loop .y) (c .loop-test .taken)
 
-loop-again : tie.Need-loop-again Inv-loop μ-loop
-loop-again c =
-    let a = start (c .before .before .before) .args in (
-      omega arith,
-      fill-more _ _ _ _ _ _ _ _ refl (omega arith) (ap (λ (p : ℕ). getD (now (a .sums)) (p + a .j) 0) (c .before .wide .ensures))
-          (c .before .before .before .before .loop .inv .1),
-    )
-
-returns : tie.Need-returns Inv-loop μ-loop
-returns c = fill-end _ _ _ (omega arith) (c .before .loop .inv .1)
-
 loop-holds : tie.Need-loop-holds Inv-loop μ-loop
 loop-holds c = (search needs, fill-none _ _ _ _)
 
-mul-wide : tie.Need-mul-wide Inv-loop μ-loop
-mul-wide c = search needs
-
-shared-slice-read-wide : tie.Need-shared-slice-read-wide Inv-loop μ-loop
-shared-slice-read-wide c = search needs
-
-wide-requires : tie.Need-wide-requires Inv-loop μ-loop
-wide-requires c κs = search needs
-
-add-coded : tie.Need-add-coded Inv-loop μ-loop
-add-coded c = omega (arith, inside (c .before .before))
+mul-coded : tie.Need-mul-coded Inv-loop μ-loop
+mul-coded c = search needs
 
 shared-slice-read-coded : tie.Need-shared-slice-read-coded Inv-loop μ-loop
-shared-slice-read-coded c = omega (arith, inside (c .before .before .before))
+shared-slice-read-coded c = search needs
+
+cast-coded : tie.Need-cast-coded Inv-loop μ-loop
+cast-coded c = omega (arith, inside (c .before))
+
+add-coded : tie.Need-add-coded Inv-loop μ-loop
+add-coded c = omega (arith, inside (c .before))
+
+shared-slice-read-coded-2 : tie.Need-shared-slice-read-coded-2 Inv-loop μ-loop
+shared-slice-read-coded-2 c = omega (arith, inside (c .before .before))
 
 add-coded-2 : tie.Need-add-coded-2 Inv-loop μ-loop
 add-coded-2 c = search needs
@@ -64,8 +53,14 @@ add-y c = search needs
 loop-less : tie.Need-loop-less Inv-loop μ-loop
 loop-less c = search needs
 
+loop-again : tie.Need-loop-again Inv-loop μ-loop
+loop-again c = (omega arith, fill-more _ _ _ _ _ _ _ _ refl (omega arith) refl (c .before .before .before .loop .inv .1))
+
 same-length : tie.Need-same-length Inv-loop μ-loop
 same-length c = search needs
+
+returns : tie.Need-returns Inv-loop μ-loop
+returns c = fill-end _ _ _ (omega arith) (c .before .loop .inv .1)
 
 pub pick-spec : {M : Type 1} → statement M
 pick-spec =
@@ -74,11 +69,11 @@ pick-spec =
     Inv-loop
     μ-loop
     loop-holds
-    mul-wide
-    shared-slice-read-wide
-    wide-requires
-    add-coded
+    mul-coded
     shared-slice-read-coded
+    cast-coded
+    add-coded
+    shared-slice-read-coded-2
     add-coded-2
     slice-write-coded
     add-y

@@ -1,7 +1,8 @@
 -- `encoder::coded::sum_place`: for each rate, the step and the parity by numerals are those of the place. Assumes nothing.
 use native.Mathlib.Omega.{arith}
 use borrow.Author.Needs.{needs, fits-under}
-use Rattle.encoder.proofs.CodedLaws.{otherwise-six, place-by, product-few, place-few}
+use Rattle.chain.proofs.Counts.{kept-other}
+use Rattle.encoder.proofs.CodedLaws.{place-by, product-few, place-few}
 use Rattle.encoder.proofs.coded.sum_place.Statement.{statement}
 use Rattle.encoder.proofs.coded.sum_place.Tie as tie
 
@@ -17,7 +18,7 @@ returns-3 c = place-by _ 4 _ _ _ _ (c .if3 .taken) (omega arith) (omega arith)
 returns-4 : tie.Need-returns-4
 returns-4 c =
     place-by _ 6 _ _ _ _
-    (otherwise-six _ (c .before .before .before .pre .rate) (c .before .before .if1 .left) (c .before .if2 .left) (c .if3 .left))
+    (kept-other _ (c .before .before .before .pre .rate) (c .before .before .if1 .left) (c .before .if2 .left) (c .if3 .left))
     (omega arith) (omega arith)
 
 mul-result : tie.Need-mul-result

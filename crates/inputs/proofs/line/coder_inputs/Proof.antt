@@ -2,7 +2,8 @@ use native.Mathlib.Omega.{arith}
 use denote.Ref.{now}
 use borrow.Author.Needs.{needs}
 use Rattle.chain.specs.DataBits.{payloadBit, coderInput}
-use Rattle.inputs.proofs.Mixing.{few-encoders, line-filled}
+use Rattle.chain.proofs.Counts.{encoders-most}
+use Rattle.inputs.proofs.Mixing.{line-filled}
 use Rattle.inputs.proofs.line.coder_inputs.Statement.{statement}
 use Rattle.inputs.proofs.line.coder_inputs.Tie as tie
 
@@ -14,10 +15,10 @@ returns c =
     let start = marks .before .before .before in
     let a = start .args in
     line-filled (coderInput (payloadBit (now (a .payload))) (a .bytes) (a .encoders) (a .seed)) (a .encoders) (a .first) (a .count) _ _ _ _
-    (few-encoders (start .pre)) (start .pre .some) (marks .below-mark .ensures) (first .clear .ensures) (last .scrambled-inputs .ensures)
+    (encoders-most (start .args .encoders) (start .pre .one-or-two)) (start .pre .some) (marks .below-mark .ensures) (first .clear .ensures) (last .scrambled-inputs .ensures)
 
 mul-below-mark : tie.Need-mul-below-mark
-mul-below-mark c = omega (arith, few-encoders (c .before .before .pre))
+mul-below-mark c = omega (arith, encoders-most (c .before .before .args .encoders) (c .before .before .pre .one-or-two))
 
 below-mark-requires : tie.Need-below-mark-requires
 below-mark-requires c κs = search needs
@@ -26,10 +27,10 @@ add-start : tie.Need-add-start
 add-start c = search needs
 
 mul-start : tie.Need-mul-start
-mul-start c = omega (arith, few-encoders (c .before .before .before .pre))
+mul-start c = omega (arith, encoders-most (c .before .before .before .args .encoders) (c .before .before .before .pre .one-or-two))
 
 sub-start : tie.Need-sub-start
-sub-start c = omega (arith, few-encoders (c .before .before .before .pre))
+sub-start c = omega (arith, encoders-most (c .before .before .before .args .encoders) (c .before .before .before .pre .one-or-two))
 
 clear-requires : tie.Need-clear-requires
 clear-requires c κs = search needs
@@ -39,7 +40,7 @@ sub-scrambled-inputs c = search needs
 
 scrambled-inputs-requires : tie.Need-scrambled-inputs-requires
 scrambled-inputs-requires c κs =
-    let two = few-encoders (c .before .before .before .before .before .before .before .before .pre) in
+    let two = encoders-most (c .before .before .before .before .before .before .before .before .args .encoders) (c .before .before .before .before .before .before .before .before .pre .one-or-two) in
     record {
       room = omega arith;
       few = omega arith;
