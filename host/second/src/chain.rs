@@ -1,18 +1,33 @@
 //! Document 01, "From payload to points", steps 1 to 5 together.
 //!
 //! The whole frame is coded from data bit 0; the part of one symbol is then
-//! taken out, dealt to the streams and interleaved.
+//! taken out, dealt to the streams and interleaved. `own_labels` gives the same
+//! from those data bits alone that the symbol depends on.
 
-use crate::data_bits::data_bits;
-use crate::encoder::{encode, encoder_inputs};
+use crate::data_bits::{data_bits, data_bits_from};
+use crate::encoder::{encode, encoder_inputs, Encoder};
 use crate::interleaver::interleave;
 use crate::parser::deal;
 use crate::puncture::puncture;
 use crate::rates::{
-    bits_per_carrier, coded_bits_per_symbol, encoders, rate, streams, symbol_count,
+    bits_per_carrier, coded_bits_per_symbol, data_bits_per_symbol, encoders, rate, streams,
+    symbol_count,
 };
 use crate::refusal;
-use crate::settings::Settings;
+use crate::settings::{check, Settings};
+
+/// Refusals 1 to 5, then 6 for a payload slice shorter than `length`, then 7
+/// for a symbol that is not in the frame.
+pub fn check_symbol(s: &Settings, payload: &[u8], symbol: u64) -> Result<(), u32> {
+    check(s)?;
+    if payload.len() < s.length as usize {
+        return Err(refusal::SOURCE);
+    }
+    if symbol >= u64::from(symbol_count(s)?) {
+        return Err(refusal::PLACE);
+    }
+    Ok(())
+}
 
 /// Steps 1 to 3: the kept bits of each encoder over the whole frame.
 ///
@@ -39,6 +54,37 @@ pub fn symbol_labels(s: &Settings, payload: &[u8], symbol: u64) -> Result<Vec<Ve
         return Err(refusal::PLACE);
     }
     Ok(labels_of(s, &coded, symbol as usize))
+}
+
+/// Steps 1 to 5 for one symbol, as `symbol_labels` gives them, from the data
+/// bits that document 01 names for it in "The words of demand 3": its own, nD
+/// to nD + D - 1, and those of the last six steps of each encoder before it,
+/// nD - 6·NES to nD - 1; symbol 0 has none before it.
+///
+/// D is a multiple of NES, and D/NES a whole number of puncturing periods, so
+/// the encoders' turns and the kept bits begin anew with each symbol. Refusals
+/// as in `symbol_labels`.
+pub fn own_labels(s: &Settings, payload: &[u8], symbol: u64) -> Result<Vec<Vec<u8>>, u32> {
+    check_symbol(s, payload, symbol)?;
+    let nes = encoders(s.mcs);
+    let d = u64::from(data_bits_per_symbol(s.width, s.mcs));
+    let first = symbol * d;
+    let reach = if symbol == 0 { 0 } else { 6 * u64::from(nes) };
+    let before = data_bits_from(s, payload, first.saturating_sub(reach), reach)?;
+    let own = data_bits_from(s, payload, first, d)?;
+    let mut parts = Vec::new();
+    for number in 0..nes {
+        let mut encoder = Encoder::at_zero();
+        for input in encoder_inputs(&before, nes, number) {
+            encoder.step(input);
+        }
+        let mut steps = Vec::new();
+        for input in encoder_inputs(&own, nes, number) {
+            steps.push(encoder.step(input));
+        }
+        parts.push(puncture(&steps, rate(s.mcs)));
+    }
+    Ok(labels_from(s, &parts))
 }
 
 /// Steps 1 to 5 for the whole frame: the answers of `symbol_labels` for all
@@ -77,8 +123,13 @@ fn labels_of(s: &Settings, coded: &[Vec<u8>], symbol: usize) -> Vec<Vec<u8>> {
     for kept in coded {
         parts.push(part(kept, share, symbol));
     }
+    labels_from(s, &parts)
+}
+
+/// Steps 4 and 5 for one symbol's kept bits, `parts[j]` those of encoder j.
+fn labels_from(s: &Settings, parts: &[Vec<u8>]) -> Vec<Vec<u8>> {
     let b = bits_per_carrier(s.mcs);
-    let dealt = deal(&parts, streams(s.mcs), b);
+    let dealt = deal(parts, streams(s.mcs), b);
     let mut labels = Vec::new();
     for (stream, bits) in (0..).zip(&dealt) {
         labels.push(interleave(s.width, b, stream, bits));
@@ -95,7 +146,7 @@ fn part(kept: &[u8], share: usize, symbol: usize) -> Vec<u8> {
 #[cfg(test)]
 mod tests {
     use super::*;
-    use crate::rates::{block, data_bits_per_symbol, data_carriers};
+    use crate::rates::{block, data_carriers};
     use crate::samples::{all_wrong, bits, other_format_and_flags, settings};
 
     /// Byte j is 37·j + 11 modulo 256.
@@ -337,6 +388,22 @@ mod tests {
     }
 
     #[test]
+    fn own_labels_are_those_of_the_whole_frame() {
+        let payload = some_bytes(800);
+        for width in [20, 40] {
+            for mcs in 0..=31 {
+                for (length, seed) in [(1, 127), (2, 1), (7, 64), (61, 93), (800, 37)] {
+                    let s = settings(mcs, width, length, seed);
+                    let frame = frame_labels(&s, &payload).unwrap();
+                    for (n, symbol) in (0..).zip(&frame) {
+                        assert_eq!(own_labels(&s, &payload, n).as_ref(), Ok(symbol));
+                    }
+                }
+            }
+        }
+    }
+
+    #[test]
     fn symbols_in_any_order_are_the_same() {
         let payload = some_bytes(400);
         let s = settings(22, 40, 400, 3);
@@ -428,6 +495,8 @@ mod tests {
         let mut s = all_wrong();
         let refused = |s: &Settings, payload: &[u8], symbol: u64| {
             let refused = symbol_labels(s, payload, symbol).map(|_| ());
+            assert_eq!(own_labels(s, payload, symbol).map(|_| ()), refused);
+            assert_eq!(check_symbol(s, payload, symbol), refused);
             if refused != Err(7) {
                 assert_eq!(frame_labels(s, payload).map(|_| ()), refused);
                 assert_eq!(coded_frame(s, payload).map(|_| ()), refused);
@@ -464,6 +533,7 @@ mod tests {
                 // Symbol numbers do not wrap.
                 for n in [count, count + 1, 1 << 16, 1 << 32, (1 << 32) + 1, u64::MAX] {
                     assert_eq!(symbol_labels(&s, &payload, n), Err(7));
+                    assert_eq!(own_labels(&s, &payload, n), Err(7));
                 }
             }
         }
@@ -481,6 +551,7 @@ mod tests {
             assert_eq!(symbol_labels(&s, &payload, count as u64), Err(7));
             let closed = Closed::of(s, &payload);
             for n in [0, 1, count / 2, count - 2, count - 1] {
+                assert_eq!(own_labels(&s, &payload, n as u64).as_ref(), Ok(&frame[n]));
                 for (i, stream) in frame[n].iter().enumerate() {
                     for (r, bit) in stream.iter().enumerate() {
                         assert_eq!(*bit, closed.label(n, i, r));
@@ -532,6 +603,7 @@ mod tests {
                 for c in numbers {
                     let s = settings(a, b, c, a);
                     let _ = symbol_labels(&s, &[0; 40], u64::from(c));
+                    let _ = own_labels(&s, &[0; 40], u64::from(c));
                     let _ = frame_labels(&s, &[0; 40]);
                 }
             }

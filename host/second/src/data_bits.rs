@@ -3,9 +3,9 @@
 //! Data bits: 16 zeros, payload (low bit first), 6·NES tail, pad zeros to a
 //! full symbol. All are scrambled; then the tail is set to zero.
 
-use crate::rates::{data_bits_per_symbol, encoders};
+use crate::rates::{data_bits_per_symbol, encoders, symbol_count};
 use crate::refusal;
-use crate::scrambler::scramble;
+use crate::scrambler::{register, scramble};
 use crate::settings::{check, Settings};
 
 /// The bits of the whole frame before scrambling: 16 zeros, payload (low bit
@@ -56,10 +56,57 @@ pub fn data_bits(s: &Settings, payload: &[u8]) -> Result<Vec<u8>, u32> {
     Ok(bits)
 }
 
+/// The data bits with numbers `first` to `first` + `count` - 1, as far as the
+/// frame has them: the same as in `data_bits`, without those before and after.
+///
+/// The scrambler is back at its seed after 127 steps, so it is stepped on
+/// `first` mod 127 times. Refusals as in `plain_bits`.
+pub fn data_bits_from(
+    s: &Settings,
+    payload: &[u8],
+    first: u64,
+    count: u64,
+) -> Result<Vec<u8>, u32> {
+    check(s)?;
+    let Some(payload) = payload.get(..s.length as usize) else {
+        return Err(refusal::SOURCE);
+    };
+    let d = u64::from(data_bits_per_symbol(s.width, s.mcs));
+    let end = u64::from(symbol_count(s)?) * d;
+    let tail = 16 + 8 * u64::from(s.length);
+    let pad = tail + 6 * u64::from(encoders(s.mcs));
+
+    let mut register = register(s.seed);
+    for _ in 0..first % 127 {
+        register.step();
+    }
+    let mut bits = Vec::new();
+    for number in first..end.min(first.saturating_add(count)) {
+        let scrambled = plain_bit(payload, number) ^ register.step();
+        let in_tail = number >= tail && number < pad;
+        bits.push(if in_tail { 0 } else { scrambled });
+    }
+    Ok(bits)
+}
+
+/// One bit before scrambling: bit b of payload byte j is number 16 + 8j + b,
+/// low bit first; the 16 before, and the tail and the pad after, are zero.
+fn plain_bit(payload: &[u8], number: u64) -> u8 {
+    let Some(after_16) = number.checked_sub(16) else {
+        return 0;
+    };
+    let Ok(j) = usize::try_from(after_16 / 8) else {
+        return 0;
+    };
+    match payload.get(j) {
+        Some(byte) => (byte >> (after_16 % 8)) % 2,
+        None => 0,
+    }
+}
+
 #[cfg(test)]
 mod tests {
     use super::*;
-    use crate::rates::symbol_count;
     use crate::samples::{all_wrong, bits, other_format_and_flags, settings};
     use crate::scrambler::scrambler_sequence;
 
@@ -276,11 +323,61 @@ mod tests {
     }
 
     #[test]
+    fn a_part_is_the_part_of_the_whole() {
+        let payload = some_bytes(200);
+        for width in [20, 40] {
+            for mcs in 0..=31 {
+                for (length, seed) in [(1, 127), (2, 1), (29, 93), (200, 64)] {
+                    let s = settings(mcs, width, length, seed);
+                    let whole = data_bits(&s, &payload).unwrap();
+                    for first in (0..whole.len() + 3).step_by(5) {
+                        for count in [0, 1, 6, 12, 130, 1_000] {
+                            let got = data_bits_from(&s, &payload, first as u64, count as u64);
+                            let from = whole.iter().skip(first).take(count);
+                            assert_eq!(got, Ok(from.copied().collect()));
+                        }
+                    }
+                    let all = data_bits_from(&s, &payload, 0, u64::MAX);
+                    assert_eq!(all, Ok(whole));
+                }
+            }
+        }
+    }
+
+    #[test]
+    fn parts_of_the_longest_frame() {
+        let payload = some_bytes(65_535);
+        let s = settings(0, 20, 65_535, 93);
+        let whole = data_bits(&s, &payload).unwrap();
+        for first in [0, 1, 16, 127, 262_144, 524_290, 524_300, 524_315] {
+            let got = data_bits_from(&s, &payload, first, 1_000).unwrap();
+            let to = whole.len().min(first as usize + 1_000);
+            assert_eq!(got, whole[first as usize..to]);
+        }
+        assert_eq!(data_bits_from(&s, &payload, 0, u64::MAX), Ok(whole));
+        for first in [524_316, 1 << 32, u64::MAX] {
+            assert_eq!(data_bits_from(&s, &payload, first, u64::MAX), Ok(vec![]));
+        }
+    }
+
+    #[test]
+    fn bits_past_the_payload_are_zero() {
+        assert_eq!(plain_bit(&[0xFF], 15), 0);
+        assert_eq!(plain_bit(&[0xFF], 16), 1);
+        assert_eq!(plain_bit(&[0xFF], 23), 1);
+        assert_eq!(plain_bit(&[0xFF], 24), 0);
+        assert_eq!(plain_bit(&[0xFF], u64::MAX), 0);
+        assert_eq!(plain_bit(&[], 16), 0);
+    }
+
+    #[test]
     fn refusals_1_to_6_in_order() {
         let mut s = all_wrong();
         let both = |s: &Settings, payload: &[u8]| {
             let refused = data_bits(s, payload).map(|_| ());
             assert_eq!(plain_bits(s, payload).map(|_| ()), refused);
+            let part = data_bits_from(s, payload, u64::MAX, u64::MAX);
+            assert_eq!(part.map(|_| ()), refused);
             refused
         };
         assert_eq!(both(&s, &[]), Err(1));

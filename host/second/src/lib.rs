@@ -19,19 +19,29 @@
 //! - `parser`: step 4, a symbol's bits dealt to the streams
 //! - `interleaver`: step 5, the three permutations of EWC 4.4.2
 //! - `chain`: steps 1 to 5 together, the label bits of a symbol
+//! - `mapper`: step 6, the levels of a label
+//! - `carriers`: step 7, the subcarriers of a width
+//! - `pilots`: step 7, tables 11 and 12 and the polarity
+//! - `points`: step 8, and the points of a symbol in the order of the slice
+//! - `question`: the one-subcarrier question, before step 8
 //!
-//! The points and the reader are to stand beside these as modules of their own.
+//! The reader is to stand beside these as a module of its own.
 
 #![forbid(unsafe_code)]
 
+pub mod carriers;
 pub mod chain;
 pub mod crc;
 pub mod data_bits;
 pub mod encoder;
 pub mod interleaver;
 pub mod listing;
+pub mod mapper;
 pub mod parser;
+pub mod pilots;
+pub mod points;
 pub mod puncture;
+pub mod question;
 pub mod rates;
 pub mod refusal;
 #[cfg(test)]
@@ -40,14 +50,21 @@ pub mod scrambler;
 pub mod settings;
 pub mod sig;
 
-pub use chain::{carrier_labels, coded_frame, frame_labels, symbol_labels};
+pub use carriers::{data_subcarriers, pilot_subcarriers, question_range, used_subcarriers};
+pub use chain::{
+    carrier_labels, check_symbol, coded_frame, frame_labels, own_labels, symbol_labels,
+};
 pub use crc::crc8;
-pub use data_bits::{data_bits, plain_bits};
+pub use data_bits::{data_bits, data_bits_from, plain_bits};
 pub use encoder::{encode, encoder_inputs, Encoder};
 pub use interleaver::{columns, interleave, place, rotation, rotation_factor, rows};
 pub use listing::listing;
+pub use mapper::{level, point, Point};
 pub use parser::{axis_bits, deal};
+pub use pilots::{pilot, pilot_pattern, polarity, polarity_offset};
+pub use points::{float, floats_per_symbol, frame_points, points, symbol_levels, turn, turned};
 pub use puncture::{pattern, puncture, Kept};
+pub use question::{carrier, Carrier};
 pub use rates::{
     bits_per_carrier, block, coded_bits_per_symbol, data_bits_per_symbol, data_carriers, encoders,
     rate, streams, symbol_count,
