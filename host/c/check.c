@@ -1,4 +1,5 @@
-/* Calls the core from C through the header: the first line of document 01's listing, there and back. */
+/* Calls the core from C through the header: the first line of document 01's listing, there and back; then the points
+ * and the subcarriers of its second line's frame. */
 #include "../include/ht_core.h"
 
 #include <stdio.h>
@@ -13,7 +14,15 @@ static void expect(int64_t got, int64_t want, const char *what) {
     }
 }
 
-int main(void) {
+/* By bits: a level is a whole number, and its zero has a clear sign bit. */
+static void expect_level(float got, float want, const char *what) {
+    if (memcmp(&got, &want, sizeof got) != 0) {
+        printf("%s: got %g, want %g\n", what, (double)got, (double)want);
+        failures++;
+    }
+}
+
+static void check_signal(void) {
     static const uint8_t want[8] = {0x8F, 0x64, 0x00, 0x07, 0x54, 0x00, 0xAA, 0xAA};
     uint8_t sig[8];
     memset(sig, 0xAA, sizeof sig);
@@ -27,6 +36,81 @@ int main(void) {
     expect(ht_sig_read(sig, 7), -HT_SOURCE, "seven bytes");
     sig[0] ^= 1;
     expect(ht_sig_read(sig, 6), -HT_SIGCRC, "damaged");
+}
+
+/* MCS 0 at 20 MHz, mixed, length 1, seed 127: two symbols of 112 floats. */
+static int64_t points(size_t payload_len, uint32_t symbol, float *out, size_t out_len) {
+    static const uint8_t payload[1] = {0x00};
+    return ht_points(20, 0, 0, 1, 127, 1, 1, 0, 0, payload, payload_len, symbol, out, out_len);
+}
+
+static int64_t carrier(uint32_t symbol, uint32_t stream, int32_t subcarrier, float *out, size_t out_len) {
+    static const uint8_t payload[1] = {0x00};
+    return ht_carrier(20, 0, 0, 1, 127, 1, 1, 0, 0, payload, sizeof payload, symbol, stream, subcarrier, out, out_len);
+}
+
+static void check_points(void) {
+    static const size_t pilot_place[4] = {7, 21, 34, 48};
+    static const float pilots[2][4] = {{1, 1, 1, -1}, {-1, -1, 1, -1}};
+    static const float begin[7] = {-1, 1, 1, -1, -1, -1, -1};
+    float out[114], before[114];
+    memset(out, 0xAA, sizeof out);
+    memcpy(before, out, sizeof out);
+
+    expect(points(0, 0, out, 112), -HT_SOURCE, "no payload");
+    expect(points(1, 2, out, 112), -HT_PLACE, "the symbol equal to the count");
+    expect(points(1, UINT32_MAX, out, 112), -HT_PLACE, "the highest symbol number");
+    expect(points(1, 0, out, 111), -HT_ROOM, "one float too few");
+    expect(points(1, 0, out, 0), -HT_ROOM, "no float");
+    expect(memcmp(out, before, sizeof out), 0, "no float written");
+
+    for (uint32_t n = 0; n < 2; n++) {
+        expect(points(1, n, out, 114), 112, "points");
+        for (size_t q = 0; q < 4; q++) {
+            expect_level(out[2 * pilot_place[q]], pilots[n][q], "pilot");
+            expect_level(out[2 * pilot_place[q] + 1], 0, "pilot, second level");
+        }
+        expect(memcmp(out + 112, before + 112, 2 * sizeof(float)), 0, "floats past the points");
+    }
+    expect(points(1, 0, out, 112), 112, "points, exact room");
+    for (size_t f = 0; f < 7; f++) {
+        expect_level(out[2 * f], begin[f], "first level");
+        expect_level(out[2 * f + 1], 0, "second level");
+    }
+}
+
+static void check_carrier(void) {
+    static const int32_t pilot_subcarrier[4] = {-21, -7, 7, 21};
+    static const float pilots[2][4] = {{1, 1, 1, -1}, {-1, -1, 1, -1}};
+    float out[2] = {9, 9};
+
+    expect(carrier(0, 0, 32, out, 2), -HT_PLACE, "subcarrier 32");
+    expect(carrier(0, 0, -33, out, 2), -HT_PLACE, "subcarrier -33");
+    expect(carrier(0, 1, 0, out, 2), -HT_PLACE, "the stream equal to their number");
+    expect(carrier(2, 0, 0, out, 2), -HT_PLACE, "a subcarrier of the symbol equal to the count");
+    expect(carrier(0, 0, 0, out, 1), -HT_ROOM, "one float for a silent subcarrier");
+    expect(carrier(0, 0, 7, out, 1), -HT_ROOM, "one float for a pilot");
+    expect(carrier(0, 0, -32, out, 2), HT_SILENT, "subcarrier -32");
+    expect(carrier(0, 0, 0, out, 2), HT_SILENT, "subcarrier 0");
+    expect_level(out[0], 9, "silent, first float");
+    expect_level(out[1], 9, "silent, second float");
+
+    for (uint32_t n = 0; n < 2; n++)
+        for (size_t q = 0; q < 4; q++) {
+            out[0] = 9;
+            expect(carrier(n, 0, pilot_subcarrier[q], out, 2), HT_PILOT, "a pilot subcarrier");
+            expect_level(out[0], pilots[n][q], "pilot sign");
+            expect_level(out[1], 9, "pilot, second float");
+        }
+    expect(carrier(0, 0, -28, out, 2), HT_DATA, "a data subcarrier");
+    expect_level(out[0], -1, "data, first level");
+    expect_level(out[1], 0, "data, second level");
+}
+
+int main(void) {
+    check_signal();
+    check_points();
+    check_carrier();
     if (failures == 0)
         printf("C calls: ok\n");
     return failures != 0;

@@ -9,7 +9,7 @@ use mir.Facts.{toZ-pos, toZ-ofZ}
 use Rattle.settings.specs.declared.settings.Refusal.{Refusal}
 use Rattle.settings.specs.declared.settings.Refusal.the-variants.{Width, Mcs, Format, Length, Seed, Source, Place, Room, Point, Code, Frame, Closed, SigCrc, SigForm}
 use Rattle.settings.specs.Settings.{numberOf}
-use Rattle.capi.specs.Results.{minus}
+use Rattle.laws.specs.Integers.{minus}
 
 minus-is : (n : ℕ) → n < 16 → pos 0 -ℤ toZ w64 n ≡ minus n
 minus-is n h = ap (λ (z : ℤ). pos 0 -ℤ z) (toZ-pos w64 {n = n} (omega arith)) ∙ +ℤ-idl (minus n)

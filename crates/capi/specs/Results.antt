@@ -1,10 +1,15 @@
 -- What the C calls take and return (docs/C-API.md).
-use mathlib.Core.Bool.{Bool, not}
+use mathlib.Core.Bool.{Bool, cond, not}
+use mathlib.Core.List.{List, _∷_}
 use Prim.Native.Nat.{ℕ, _+_, _*_}
-use lib.Dec.{eqb}
-use lib.IntN.{ℤ, pos, negℤ}
+use lib.Dec.{eqb, ltb}
+use lib.ListN.{length, drop}
+use lib.IntN.{ℤ, pos}
+use lib.Ieee.{Float}
+use Rattle.laws.specs.Integers.{minus}
 use Rattle.settings.specs.declared.settings.RawSettings.{RawSettings}
 use Rattle.settings.specs.declared.settings.Refusal.{Refusal}
+use Rattle.settings.specs.declared.settings.Refusal.the-variants.{Room}
 use Rattle.settings.specs.declared.symbols.Count.{Count}
 use Rattle.settings.specs.declared.symbols.Count.the-variants.{Symbols, Refused as CountRefused}
 use Rattle.signal.specs.declared.ht_sig.SigFields.{SigFields}
@@ -12,6 +17,12 @@ use Rattle.signal.specs.declared.ht_sig.Written.{Written}
 use Rattle.signal.specs.declared.ht_sig.Written.the-variants.{Done, Refused as WriteRefused}
 use Rattle.signal.specs.declared.ht_sig.SigRead.{SigRead}
 use Rattle.signal.specs.declared.ht_sig.SigRead.the-variants.{Fields, Refused as ReadRefused}
+use Rattle.frame.specs.declared.points.PointsAnswer.{PointsAnswer}
+use Rattle.frame.specs.declared.points.PointsAnswer.the-variants.{Written as PointsWritten, Refused as PointsRefused}
+use Rattle.frame.specs.declared.query.Carried.{Carried}
+use Rattle.frame.specs.declared.query.Carried.the-variants.{Silent, Pilot, Data}
+use Rattle.frame.specs.declared.query.QueryAnswer.{QueryAnswer}
+use Rattle.frame.specs.declared.query.QueryAnswer.the-variants.{Carries, Refused as QueryRefused}
 use Rattle.settings.specs.Settings.{numberOf}
 use Rattle.signal.specs.HtSig.{oneIf}
 
@@ -31,9 +42,6 @@ rawOf w m f l d s n a g = record {
   aggregation = flagOn a;
   «short_guard» = flagOn g;
 }
-
-abbrev pub minus : ℕ → ℤ
-minus n = negℤ (pos n)
 
 -- "the refusal's number negated"
 abbrev pub refusedResult : Refusal → ℤ
@@ -57,3 +65,32 @@ fieldsNumber g =
 abbrev pub readResult : SigRead → ℤ
 readResult (Fields g) = pos (fieldsNumber g)
 readResult (ReadRefused r) = refusedResult r
+
+-- the number of floats written
+abbrev pub pointsResult : PointsAnswer → ℤ
+pointsResult (PointsWritten n) = pos n
+pointsResult (PointsRefused r) = refusedResult r
+
+-- 0 silent, 1 a pilot, 2 a data point, and what of it is written
+abbrev pub carriedNumber : Carried → ℕ
+carriedNumber Silent = 0
+carriedNumber (Pilot sign) = 1
+carriedNumber (Data p) = 2
+
+abbrev pub carriedInto : Carried → List Float → List Float
+carriedInto Silent l = l
+carriedInto (Pilot sign) l = sign ∷ drop 1 l
+carriedInto (Data p) l = p .first ∷ (p .second ∷ drop 2 l)
+
+-- the question's refusals, then 8 where there is no room for two floats, whatever the answer
+abbrev pub carrierResult : QueryAnswer → (room : ℕ) → ℤ
+carrierResult (Carries c) room = cond (ltb room 2) (refusedResult Room) (pos (carriedNumber c))
+carrierResult (QueryRefused r) room = refusedResult r
+
+abbrev pub carrierInto : QueryAnswer → List Float → List Float
+carrierInto (Carries c) l = cond (ltb (length l) 2) l (carriedInto c l)
+carrierInto (QueryRefused r) l = l
+
+abbrev pub IsRefusedQuery : QueryAnswer → Type 0
+IsRefusedQuery (Carries c) = ⊥
+IsRefusedQuery (QueryRefused r) = Unit {0}

@@ -1,4 +1,9 @@
 // The calls over the C convention: numbers and slices in, one i64 out, a refusal as its number negated.
+use frame::points;
+use frame::points::PointsAnswer;
+use frame::query;
+use frame::query::Carried;
+use frame::query::QueryAnswer;
 use settings::settings::RawSettings;
 use settings::settings::Refusal;
 use settings::settings::number;
@@ -9,13 +14,17 @@ use signal::ht_sig::SigFields;
 use signal::ht_sig::SigRead;
 use signal::ht_sig::Written;
 ghost use mathlib.Core.Path.{_≡_};
-ghost use Prim.Native.Nat.{_<_};
+ghost use Prim.Native.Nat.{_<_, _≤_};
+ghost use lib.IntN.{pos};
 ghost use lib.ListN.{length as lengthOf};
 ghost use Rattle.settings.specs.Settings.{checkOf};
 ghost use Rattle.settings.specs.Symbols.{countOf};
 ghost use Rattle.signal.specs.HtSig.{writtenOf, writtenInto, readOf};
 ghost use Rattle.signal.specs.Words.{SigFits};
-ghost use Rattle.capi.specs.Results.{rawOf, minus, refusedResult, countResult, writtenResult, fieldsNumber, readResult};
+ghost use Rattle.laws.specs.Integers.{minus};
+ghost use Rattle.frame.specs.Points.{pointsOf, pointsInto};
+ghost use Rattle.frame.specs.Query.{queryOf};
+ghost use Rattle.capi.specs.Results.{rawOf, refusedResult, countResult, writtenResult, fieldsNumber, readResult, pointsResult, carriedNumber, carriedInto, carrierResult, carrierInto, IsRefusedQuery};
 
 // The settings of a call: a flag is off at 0 and on at any other number.
 fn raw_settings(
@@ -89,6 +98,17 @@ pub extern "C" fn ht_symbol_count(
     }
 }
 
+fn query_refusal(answer: QueryAnswer) -> Refusal
+    requires { ⌜ IsRefusedQuery answer ⌝ }
+    ensures { λ r. ⌜ answer ≡ QueryAnswer.Refused r ⌝ }
+{
+    match answer {
+        QueryAnswer::Refused(r) => r,
+        // Ruled out by the `requires`.
+        QueryAnswer::Carries(_) => Refusal::Width,
+    }
+}
+
 // The HT-SIG bytes, written.
 #[no_mangle]
 pub extern "C" fn ht_sig_write(
@@ -145,4 +165,102 @@ pub extern "C" fn ht_sig_read(sig: &[u8]) -> i64
         SigRead::Fields(g) => fields_number(g) as i64,
         SigRead::Refused(r) => refused(r),
     }
+}
+
+// The points of one data symbol.
+#[no_mangle]
+pub extern "C" fn ht_points(
+    width: u32,
+    mcs: u32,
+    format: u32,
+    length: u32,
+    seed: u32,
+    smoothing: u32,
+    not_sounding: u32,
+    aggregation: u32,
+    short_guard: u32,
+    payload: &[u8],
+    symbol: u32,
+    out: &mut [f32],
+) -> i64
+    ensures { λ r. ⌜ r ≡ pointsResult (pointsOf (checkOf (rawOf width mcs format length seed smoothing «not_sounding» aggregation «short_guard»)) (lengthOf (now (payload .entry))) symbol (lengthOf (now (out .entry)))) ⌝ }
+    ensures { λ _. ⌜ now (out .exit) ≡ pointsInto (checkOf (rawOf width mcs format length seed smoothing «not_sounding» aggregation «short_guard»)) (now (payload .entry)) symbol (now (out .entry)) ⌝ }
+{
+    let raw = raw_settings(
+        width,
+        mcs,
+        format,
+        length,
+        seed,
+        smoothing,
+        not_sounding,
+        aggregation,
+        short_guard,
+    );
+    match points::points(raw, payload, symbol as u64, out) {
+        PointsAnswer::Written(n) => n as i64,
+        PointsAnswer::Refused(r) => refused(r),
+    }
+}
+
+// Puts what a subcarrier carries into the lent floats: 0 for nothing, 1 for a pilot's sign, 2 for a data point.
+fn put_carried(carried: Carried, out: &mut [f32]) -> i64
+    requires { ⌜ 2 ≤ lengthOf (now out) ⌝ }
+    ensures { λ r. ⌜ (r ≡ pos (carriedNumber carried)) × (now (out .exit) ≡ carriedInto carried (now (out .entry))) ⌝ }
+{
+    match carried {
+        Carried::Silent => 0,
+        Carried::Pilot(sign) => {
+            out[0] = sign;
+            1
+        }
+        Carried::Data(p) => {
+            out[0] = p.first;
+            out[1] = p.second;
+            2
+        }
+    }
+}
+
+// What one subcarrier carries.
+#[no_mangle]
+pub extern "C" fn ht_carrier(
+    width: u32,
+    mcs: u32,
+    format: u32,
+    length: u32,
+    seed: u32,
+    smoothing: u32,
+    not_sounding: u32,
+    aggregation: u32,
+    short_guard: u32,
+    payload: &[u8],
+    symbol: u32,
+    stream: u32,
+    subcarrier: i32,
+    out: &mut [f32],
+) -> i64
+    ensures { λ r. ⌜ r ≡ carrierResult (queryOf (checkOf (rawOf width mcs format length seed smoothing «not_sounding» aggregation «short_guard»)) (now (payload .entry)) symbol stream subcarrier) (lengthOf (now (out .entry))) ⌝ }
+    ensures { λ _. ⌜ now (out .exit) ≡ carrierInto (queryOf (checkOf (rawOf width mcs format length seed smoothing «not_sounding» aggregation «short_guard»)) (now (payload .entry)) symbol stream subcarrier) (now (out .entry)) ⌝ }
+{
+    let raw = raw_settings(
+        width,
+        mcs,
+        format,
+        length,
+        seed,
+        smoothing,
+        not_sounding,
+        aggregation,
+        short_guard,
+    );
+    let answer = query::subcarrier(raw, payload, symbol as u64, stream as u64, subcarrier);
+    let QueryAnswer::Carries(carried) = answer else {
+        return refused(query_refusal(answer));
+    };
+    let small = out.len() < 2;
+    if small {
+        return refused(Refusal::Room);
+    }
+    put_carried(carried, out)
 }

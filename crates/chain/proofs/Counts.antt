@@ -1,9 +1,10 @@
 -- The lists of numbers that a plan is made of: how small their numbers are, and which one is left where the others are not. Assumes nothing.
 use mathlib.Core.Path.{_≡_}
+use mathlib.Core.List.{[], _∷_}
 use Prim.Native.Nat.{ℕ, _<_, _≤_}
 use native.Mathlib.Omega.{arith}
 use lib.Dec.{T}
-use Rattle.laws.specs.Test.{among}
+use Rattle.laws.specs.Test.{among, every-at}
 use Rattle.laws.specs.Claim.{Claim, _is_, _under_, _and_, each, unless, Holds, sound}
 use Rattle.chain.specs.Plan.{widths, bitCounts, streamCounts, encoderCounts, keptCounts}
 use Rattle.chain.specs.Parser.{axisBits}
@@ -43,6 +44,11 @@ module _ (b : ℕ) (h : T (among bitCounts b)) where
 
   pub axis-most : axisBits b ≤ 3
   axis-most = omega (arith, bits-are b h .1 .1 .1 .0)
+
+  -- an axis has one bit, two or three
+  pub axis-known : T (among (1 ∷ 2 ∷ 3 ∷ []) (axisBits b))
+  unfolding axisBits
+  axis-known = every-at (λ (k : ℕ). among (1 ∷ 2 ∷ 3 ∷ []) (axisBits k)) bitCounts tt b h
 
   pub bits-other : (b ≡ 1 → ⊥) → (b ≡ 2 → ⊥) → (b ≡ 4 → ⊥) → b ≡ 6
   bits-other = bits-are b h .1 .1 .1 .1

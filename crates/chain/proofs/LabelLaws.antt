@@ -6,7 +6,7 @@ use Prim.Native.Nat.{ℕ, zero, suc, _+_, _-_, _*_, _/_, _%_, _^_, _<_, _≤_}
 use native.Mathlib.Nat.{div-add-mod', div-lt-iff-lt-mul, mod-lt, mul-le-mul-right, suc-mul, pow-zero, pow-suc, eq-or-lt-of-le, le-of-suc-le-suc}
 use native.Mathlib.Omega.{arith}
 use borrow.Author.Tests.{lt-ltb, le-ltb}
-use Rattle.laws.specs.Claim.{Claim, _under_, each, Holds, sound}
+use Rattle.laws.specs.Claim.{Claim, _under_, _and_, each, Holds, sound}
 use Rattle.laws.proofs.Search.{lt-or-le}
 use Rattle.chain.specs.declared.plan.Plan.{Plan}
 use Rattle.chain.specs.Plan.{widths, bitCounts, streamCounts, carriersOf, Fits}
@@ -60,7 +60,7 @@ half-below p m t h l =
     omega (arith, div-add-mod' (p .block) s, rw suc-mul at (mul-le-mul-right s h))
 
 abbrev halvesClaim : Claim
-halvesClaim = each widths λ w. each bitCounts λ b. each streamCounts λ S. S * (carriersOf w * b / axisBits b) under 865
+halvesClaim = each widths λ w. each bitCounts λ b. 0 under carriersOf w * b / axisBits b and each streamCounts λ S. S * (carriersOf w * b / axisBits b) under 865
 
 few-halves : Holds halvesClaim
 unfolding axisBits
@@ -71,7 +71,11 @@ module _ (p : Plan) (fits : Fits p) where
   pub halves-most : p .streams * halvesOf p ≤ 864
   halves-most =
       rw (fits .block-is, fits .carriers-is)
-      (omega (arith, few-halves (p .width) (fits .width) (p .bits) (fits .bits) (p .streams) (fits .streams)))
+      (omega (arith, few-halves (p .width) (fits .width) (p .bits) (fits .bits) .1 (p .streams) (fits .streams)))
+
+  -- a stream has half labels
+  pub halves-some : 0 < halvesOf p
+  halves-some = rw (fits .block-is, fits .carriers-is) (few-halves (p .width) (fits .width) (p .bits) (fits .bits) .0)
 
   -- a block is a whole number of half labels
   whole : p .block ≡ axisBits (p .bits) * halvesOf p

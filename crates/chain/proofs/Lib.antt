@@ -13,3 +13,4 @@ pub mod Inverse
 pub mod Dealing
 pub mod Machine
 pub mod DecodeLaws
+pub mod DifferenceLaws

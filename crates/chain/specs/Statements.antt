@@ -4,7 +4,7 @@ use Prim.Native.Nat.{ℕ, _+_, _*_, _/_, _%_, _<_, _≤_}
 use Rattle.chain.specs.declared.plan.Plan.{Plan}
 use Rattle.chain.specs.Parser.{axisBits, encoderOf, indexOf, streamOf, bitOf}
 use Rattle.chain.specs.Interleaver.{place, source}
-use Rattle.chain.specs.Labels.{share}
+use Rattle.chain.specs.Labels.{share, halfLabel, halvesOf}
 
 -- the parser: bit k of stream i is a coded bit of the symbol, and each coded bit (j, y) is one stream's bit; each way undoes the other
 pub record Parses (p : Plan) : Type 0 where
@@ -74,3 +74,11 @@ pub record LabelPlaces (p : Plan) : Type 0 where
 -- two lines of inputs agree wherever symbol n looks: on its own data bits nD to nD + D - 1, and on the last six steps of each encoder before them
 abbrev pub AgreeAt : (p : Plan) (x y : ℕ → ℕ) (n : ℕ) → Type 0
 AgreeAt p x y n = (d : ℕ) → n * p .dbps ≤ d + 6 * p .encoders → d < n * p .dbps + p .dbps → x d ≡ y d
+
+-- the half labels of two lines of inputs differ in symbol n: a stream and a half that do
+pub record HalvesDiffer (p : Plan) (x y : ℕ → ℕ) (n : ℕ) : Type 0 where
+  pub stream : ℕ
+  pub half : ℕ
+  pub stream-lt : stream < p .streams
+  pub half-lt : half < halvesOf p
+  pub apart : halfLabel p x n stream half ≡ halfLabel p y n stream half → ⊥

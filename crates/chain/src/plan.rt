@@ -1,5 +1,6 @@
 // The numbers that a width, an MCS and a number of encoders give: document 01, 'Settings'.
 ghost use mathlib.Core.Path.{_≡_};
+ghost use Rattle.chain.specs.Parser.{axisBits};
 ghost use Rattle.chain.specs.Plan.{carriersOf, planOf, Planned};
 
 pub struct Plan {
@@ -59,4 +60,14 @@ pub fn plan_for(width: usize, mcs: usize, encoders: usize) -> Plan
         coded,
         dbps,
     }
+}
+
+// Bits of one axis of a constellation point.
+pub fn axis_bits(bits: usize) -> usize
+    ensures { λ r. ⌜ r ≡ axisBits bits ⌝ }
+{
+    if bits < 2 {
+        return 1;
+    }
+    bits / 2
 }

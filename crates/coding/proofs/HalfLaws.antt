@@ -22,11 +22,11 @@ use Rattle.chain.specs.Interleaver.{rotation, blockOf, shiftOf, source}
 use Rattle.chain.specs.Labels.{written, halvesOf}
 use Rattle.chain.proofs.ParserLaws.{parses}
 use Rattle.chain.proofs.InterleaverLaws.{shift-lt, source-shift, stream-below-four, plan-block, interleaves-plan}
-use Rattle.chain.proofs.Counts.{bits-some}
+use Rattle.chain.proofs.Counts.{axis-known, bits-some}
 use Rattle.chain.proofs.LabelLaws.{written-from, halves-most}
 use Rattle.coding.specs.Sources.{codedSlot, labelSource}
 use Rattle.coding.specs.Halves.{halfAt, labelIn, halfIn, HalfAsked, RunAsked, HalvesFilled}
-use Rattle.coding.proofs.SourceLaws.{small, axis-known}
+use Rattle.coding.proofs.SourceLaws.{small}
 
 -- bit t of half m is in the table, and what stands there among the coded bits
 pub bit-asked : {coded table : List ℕ} {s shift m : ℕ} → HalfAsked coded table s shift m
@@ -266,7 +266,7 @@ module _ (p : Plan) (f : Fits p) where
             let bits : (from + n) * s ≤ count * s = mul-le-mul-right s low in
             let whole = t .whole in
             record {
-              axis = subst (λ (x : ℕ). T (among (1 ∷ 2 ∷ 3 ∷ []) x)) (sym (t .axis-is)) (axis-known p f);
+              axis = subst (λ (x : ℕ). T (among (1 ∷ 2 ∷ 3 ∷ []) x)) (sym (t .axis-is)) (axis-known (p .bits) (f .bits));
               few = omega (arith, t .few);
               room = omega (arith, stream-room);
               near = omega (arith, stream-near);

@@ -7,7 +7,7 @@ use native.Mathlib.Nat.{mul-le-mul}
 use native.Mathlib.Omega.{arith}
 use lib.Dec.{T}
 use lib.ListN.{getD}
-use Rattle.laws.specs.Test.{among, every-at}
+use Rattle.laws.specs.Test.{among}
 use Rattle.laws.specs.Claim.{Claim, _is_, _under_, _and_, upTo, each, unless, Holds, sound}
 use Rattle.laws.specs.Filled.{Filled}
 use Rattle.laws.proofs.Filling.{fill-at}
@@ -146,11 +146,6 @@ module _ (p : Plan) (f : Fits p) where
         axis-most = axis-most (p .bits) (f .bits);
         block = omega (arith, plan-block p f, block-most (p .width) (p .bits) (f .width) (f .bits));
       }
-
-  -- an axis has one, two or three bits
-  pub axis-known : T (among (1 ∷ 2 ∷ 3 ∷ []) (axisBits (p .bits)))
-  unfolding axisBits
-  axis-known = every-at (λ (b : ℕ). among (1 ∷ 2 ∷ 3 ∷ []) (axisBits b)) bitCounts tt (p .bits) (f .bits)
 
   -- the bits of stream 0 are those of its block
   pub source-small : (r : ℕ) → r < p .block → source (p .width) (p .bits) 0 r < 648

@@ -1,7 +1,7 @@
 // The half labels of a symbol, stream by stream.
-use crate::sources::axis_bits;
 use crate::sources::label_sources;
 use chain::plan::Plan;
+use chain::plan::axis_bits;
 use encoder::coded::coded_bits;
 use inputs::line::coder_inputs;
 ghost use mathlib.Core.Path.{_≡_};

@@ -1,10 +1,10 @@
 // One table for all streams: where the label bits of stream 0 stand among the coded bits. Stream i's stand i·s places on, and its labels begin
 // at its rotation.
 use chain::plan::Plan;
+use chain::plan::axis_bits;
 ghost use mathlib.Core.Path.{_≡_};
 ghost use lib.ListN.{getD};
 ghost use Rattle.laws.specs.Filled.{Filled};
-ghost use Rattle.chain.specs.Parser.{axisBits};
 ghost use Rattle.chain.specs.Interleaver.{source};
 ghost use Rattle.coding.specs.Sources.{codedSlot, labelSource, SourceAsked, SourcesAsked, ParsedAsked, ParseAsked, TableAsked};
 
@@ -95,16 +95,6 @@ fn parse(table: &mut [u16], s: u16, streams: u16, encoders: u16, count: usize)
         table[r] = parsed(s, streams, encoders, table[r]);
         r += 1;
     }
-}
-
-// Bits of one axis of a constellation point.
-pub(crate) fn axis_bits(bits: usize) -> usize
-    ensures { λ r. ⌜ r ≡ axisBits bits ⌝ }
-{
-    if bits < 2 {
-        return 1;
-    }
-    bits / 2
 }
 
 pub(crate) fn label_sources(table: &mut [u16], plan: Plan)

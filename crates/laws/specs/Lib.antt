@@ -2,5 +2,7 @@ pub mod Test
 pub mod Claim
 pub mod Least
 pub mod Filled
+pub mod Firsts
 pub mod Scattered
 pub mod Refusals
+pub mod Integers

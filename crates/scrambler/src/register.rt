@@ -4,7 +4,7 @@ ghost use mathlib.Core.Path.{_≡_};
 ghost use Prim.Native.Nat.{_*_, _/_, _%_, _<_};
 ghost use Rattle.chain.specs.Scrambler.{output, next, stateAt};
 
-pub(crate) fn output_of(state: u8) -> u8
+pub fn output_of(state: u8) -> u8
     requires { ⌜ state < 128 ⌝ }
     ensures { λ r. ⌜ r ≡ output state ⌝ }
 {

@@ -1,3 +1,2 @@
 pub mod SettingsLaws
 pub mod Refusals
-pub mod Worked

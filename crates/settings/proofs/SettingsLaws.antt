@@ -35,15 +35,23 @@ in-widths true b w p q e = subst (λ (v : ℕ). T (among widths v)) (sym (eqb-tr
 in-widths false true w p q e = subst (λ (v : ℕ). T (among widths v)) (sym (eqb-true w 40 q)) tt
 in-widths false false w p q e = absurd (true-not-false e)
 
--- accepted settings are in range
-pub right : (a : RawSettings) (s : Settings) → checkOf a ≡ Accepted s → Right s
-right a s p = go (badWidth a) (badMcs a) (badFormat a) (badLength a) (badSeed a) refl refl refl refl refl p
+-- accepted settings passed every test, and are the settings that the numbers mean
+pub record Passed (a : RawSettings) (s : Settings) : Type 0 where
+  pub width : badWidth a ≡ false
+  pub mcs : badMcs a ≡ false
+  pub format : badFormat a ≡ false
+  pub length : badLength a ≡ false
+  pub seed : badSeed a ≡ false
+  pub meant : settingsOf a ≡ s
+
+pub passed : (a : RawSettings) (s : Settings) → checkOf a ≡ Accepted s → Passed a s
+passed a s p = go (badWidth a) (badMcs a) (badFormat a) (badLength a) (badSeed a) refl refl refl refl refl p
   where
     no : (r : Refusal) → Refused r ≡ Accepted s → ⊥
     no r e = let z : _≡_ {A = ℕ} 0 1 = cc in omega arith
 
     go : (w m f l d : Bool) → badWidth a ≡ w → badMcs a ≡ m → badFormat a ≡ f → badLength a ≡ l → badSeed a ≡ d
-        → cond w (Refused Width) (cond m (Refused Mcs) (cond f (Refused Format) (cond l (Refused Length) (cond d (Refused Seed) (Accepted (settingsOf a)))))) ≡ Accepted s → Right s
+        → cond w (Refused Width) (cond m (Refused Mcs) (cond f (Refused Format) (cond l (Refused Length) (cond d (Refused Seed) (Accepted (settingsOf a)))))) ≡ Accepted s → Passed a s
     go true m f l d ew em ef el ed q = absurd (no Width q)
     go false true f l d ew em ef el ed q = absurd (no Mcs q)
     go false false true l d ew em ef el ed q = absurd (no Format q)
@@ -51,16 +59,22 @@ right a s p = go (badWidth a) (badMcs a) (badFormat a) (badLength a) (badSeed a)
     go false false false false true ew em ef el ed q = absurd (no Seed q)
     go false false false false false ew em ef el ed q =
         let is : settingsOf a ≡ s = cc in
-        subst Right is
-        (record {
-          width = in-widths (eqb (a .width) 20) (eqb (a .width) 40) (a .width) refl refl ew;
-          mcs = omega (arith, ltb-false 31 (a .mcs) em);
-          format = omega (arith, ltb-false 1 (a .format) ef);
-          length-some = above (a .length) (eqb-false (a .length) 0 (or-false (eqb (a .length) 0) (ltb 65535 (a .length)) el .0));
-          length-most = omega (arith, ltb-false 65535 (a .length) (or-false (eqb (a .length) 0) (ltb 65535 (a .length)) el .1));
-          seed-some = above (a .seed) (eqb-false (a .seed) 0 (or-false (eqb (a .seed) 0) (ltb 127 (a .seed)) ed .0));
-          seed-most = omega (arith, ltb-false 127 (a .seed) (or-false (eqb (a .seed) 0) (ltb 127 (a .seed)) ed .1));
-        })
+        record { width = ew; mcs = em; format = ef; length = el; seed = ed; meant = is }
+
+-- accepted settings are in range
+pub right : (a : RawSettings) (s : Settings) → checkOf a ≡ Accepted s → Right s
+right a s p =
+    let t = passed a s p in
+    subst Right (t .meant)
+    (record {
+      width = in-widths (eqb (a .width) 20) (eqb (a .width) 40) (a .width) refl refl (t .width);
+      mcs = omega (arith, ltb-false 31 (a .mcs) (t .mcs));
+      format = omega (arith, ltb-false 1 (a .format) (t .format));
+      length-some = above (a .length) (eqb-false (a .length) 0 (or-false (eqb (a .length) 0) (ltb 65535 (a .length)) (t .length) .0));
+      length-most = omega (arith, ltb-false 65535 (a .length) (or-false (eqb (a .length) 0) (ltb 65535 (a .length)) (t .length) .1));
+      seed-some = above (a .seed) (eqb-false (a .seed) 0 (or-false (eqb (a .seed) 0) (ltb 127 (a .seed)) (t .seed) .0));
+      seed-most = omega (arith, ltb-false 127 (a .seed) (or-false (eqb (a .seed) 0) (ltb 127 (a .seed)) (t .seed) .1));
+    })
 
 -- ---- the plan of accepted settings
 
@@ -84,6 +98,10 @@ planned s r = record { width = r .width; mcs = r .mcs; encoders = encoders-in (s
 pub plan-fits : (s : Settings) → Right s → Fits (planFor s)
 unfolding planFor
 plan-fits s r = fits (s .width) (s .mcs) (encodersOf (s .mcs)) (planned s r)
+
+pub planned-width : (s : Settings) → planFor s .width ≡ s .width
+unfolding planFor planOf
+planned-width s = refl
 
 pub planned-encoders : (s : Settings) → planFor s .encoders ≡ encodersOf (s .mcs)
 unfolding planFor planOf

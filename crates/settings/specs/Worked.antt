@@ -1,9 +1,8 @@
--- Document 01, 'Checked by hand': P1 to P6, the symbol counts, and with the coding chain's rows the table of P1 to P11.
+-- Document 01, 'Checked by hand': P1 to P6, the symbol counts, as rows of a table.
 use mathlib.Core.Bool.{true, false}
-use mathlib.Core.List.{List, [], _∷_, _++_}
+use mathlib.Core.List.{List, [], _∷_}
 use Prim.Native.Nat.{ℕ}
 use Rattle.laws.specs.Claim.{Claim, _is_}
-use Rattle.chain.specs.Worked.{workedChain}
 use Rattle.settings.specs.declared.symbols.Count.{Count}
 use Rattle.settings.specs.declared.symbols.Count.the-variants.{Symbols, Refused}
 use Rattle.settings.specs.Settings.{checkOf}
@@ -38,7 +37,3 @@ workedCounts =
     ∷ (countAt 31 40 65535 is 243)
     ∷ (countAt 16 20 7 is 2)
     ∷ []
-
--- P1 to P11 in one table
-abbrev pub checkedByHand : List Claim
-checkedByHand = workedCounts ++ workedChain

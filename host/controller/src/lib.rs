@@ -19,6 +19,9 @@
 //! assert_eq!(sig_bytes(s), Ok([0x8F, 0x64, 0x00, 0x07, 0x54, 0x00]));
 //! assert_eq!(symbol_count(Settings { mcs: 32, ..s }), Err(Refusal::Mcs));
 //! ```
+//!
+//! [`points`] gives any one data symbol of a frame by its number, in any order; [`carrier`] says what
+//! one subcarrier of it carries.
 
 #![deny(unsafe_code)]
 
@@ -119,6 +122,21 @@ pub struct SigFields {
     pub flags: Flags,
 }
 
+/// The most floats that one symbol has: four streams at 40 MHz.
+pub const MAX_FLOATS: usize = 912;
+
+/// What one subcarrier of one stream carries in a data symbol, before the upper half of a 40 MHz
+/// channel is turned (before step 8).
+#[derive(Clone, Copy, Debug, PartialEq)]
+pub enum Carrier {
+    /// The subcarrier is not used.
+    Silent,
+    /// The pilot's sign, polarity included: 1 or -1.
+    Pilot(f32),
+    /// The data point's two levels.
+    Data { first: f32, second: f32 },
+}
+
 /// A result of the C convention: not negative, or a refusal's number negated.
 fn answer(result: i64) -> Result<u64, Refusal> {
     match u64::try_from(result) {
@@ -161,5 +179,108 @@ pub fn sig_read(sig: &[u8]) -> Result<SigFields, Refusal> {
             aggregation: bit(26),
             short_guard: bit(27),
         },
+    })
+}
+
+/// The floats that [`points`] writes for each symbol: two for every used subcarrier (56 or 114) of
+/// every stream, [`MAX_FLOATS`] at most. Refusals 1 to 5.
+pub fn floats_per_symbol(settings: impl Into<RawSettings>) -> Result<usize, Refusal> {
+    let settings = settings.into();
+    symbol_count(settings)?;
+    let streams = settings.mcs as usize / 8 + 1;
+    let used = if settings.width == 40 { 114 } else { 56 };
+    Ok(2 * used * streams)
+}
+
+/// Writes the points of one data symbol at the start of `out`, and gives the number of floats
+/// written; the rest stays. Refusals 1 to 5, then 6 (payload shorter than the length), 7 (no such
+/// symbol), 8 (`out` too short).
+///
+/// Points stand stream by stream, subcarriers rising, first level then second. Each float is a
+/// whole number, its zero has a clear sign bit, and no modulation scale is applied.
+///
+/// ```
+/// use controller::{floats_per_symbol, points, symbol_count};
+/// use controller::{Flags, Format, Refusal, Settings, Width};
+///
+/// let s = Settings {
+///     width: Width::Mhz20,
+///     mcs: 0,
+///     format: Format::Mixed,
+///     length: 1,
+///     seed: 93,
+///     flags: Flags::default(),
+/// };
+/// let payload = [0x5A];
+/// let mut out = vec![0.0; floats_per_symbol(s).unwrap()];
+/// for symbol in 0..symbol_count(s).unwrap() {
+///     assert_eq!(points(s, &payload, symbol as u32, &mut out), Ok(112));
+///     // .. play `out`: 56 points of two levels
+/// }
+/// // The pilots of symbol 1 are the first levels of the places 7, 21, 34 and 48.
+/// assert_eq!([7, 21, 34, 48].map(|place| out[2 * place]), [-1.0, -1.0, 1.0, -1.0]);
+/// assert_eq!(points(s, &payload, 2, &mut out), Err(Refusal::Place));
+/// assert_eq!(points(s, &payload, 0, &mut out[..111]), Err(Refusal::Room));
+/// ```
+pub fn points(
+    settings: impl Into<RawSettings>,
+    payload: &[u8],
+    symbol: u32,
+    out: &mut [f32],
+) -> Result<usize, Refusal> {
+    let written = answer(ffi::points(&settings.into(), payload, symbol, out))?;
+    Ok(usize::try_from(written).expect("the core writes no more floats than it is lent"))
+}
+
+/// What one subcarrier carries. Subcarriers are -32 to 31 at 20 MHz and -64 to 63 at 40; the unused
+/// ones are silent. Refusals 1 to 5, then 6 (payload shorter than the length), 7 (no such symbol,
+/// stream or subcarrier).
+///
+/// ```
+/// use controller::{carrier, Carrier, Flags, Format, Refusal, Settings, Width};
+///
+/// let s = Settings {
+///     width: Width::Mhz20,
+///     mcs: 0,
+///     format: Format::Mixed,
+///     length: 1,
+///     seed: 127,
+///     flags: Flags::default(),
+/// };
+/// assert_eq!(carrier(s, &[0x00], 0, 0, -29), Ok(Carrier::Silent));
+/// assert_eq!(carrier(s, &[0x00], 0, 0, -28), Ok(Carrier::Data { first: -1.0, second: 0.0 }));
+/// assert_eq!(carrier(s, &[0x00], 0, 0, 21), Ok(Carrier::Pilot(-1.0)));
+/// assert_eq!(carrier(s, &[0x00], 0, 0, 32), Err(Refusal::Place));
+/// ```
+pub fn carrier(
+    settings: impl Into<RawSettings>,
+    payload: &[u8],
+    symbol: u32,
+    stream: u32,
+    subcarrier: i32,
+) -> Result<Carrier, Refusal> {
+    carrier_into(settings, payload, symbol, stream, subcarrier, &mut [0.0; 2])
+}
+
+/// [`carrier`] with the floats where the C call leaves them: a pilot's sign in `out[0]`, a data
+/// point in `out[0]` and `out[1]`; the rest stays. Refusals as there, then 8 for fewer than two
+/// floats of room, whatever the answer would be.
+pub fn carrier_into(
+    settings: impl Into<RawSettings>,
+    payload: &[u8],
+    symbol: u32,
+    stream: u32,
+    subcarrier: i32,
+    out: &mut [f32],
+) -> Result<Carrier, Refusal> {
+    let result = ffi::carrier(&settings.into(), payload, symbol, stream, subcarrier, out);
+    Ok(match answer(result)? {
+        0 => Carrier::Silent,
+        1 => Carrier::Pilot(out[0]),
+        2 => Carrier::Data {
+            first: out[0],
+            second: out[1],
+        },
+        kind => unreachable!("the core gives silent, pilot or data, not {kind}"),
     })
 }

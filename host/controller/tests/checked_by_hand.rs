@@ -4,8 +4,8 @@ mod common;
 
 use common::GOOD;
 use controller::{
-    sig_bytes, sig_read, sig_write, symbol_count, Flags, Format, RawSettings, Refusal, Settings,
-    Width,
+    carrier, points, sig_bytes, sig_read, sig_write, symbol_count, Carrier, Flags, Format,
+    RawSettings, Refusal, Settings, Width,
 };
 
 fn count(mcs: u32, width: u32, length: u32) -> Result<u64, Refusal> {
@@ -108,6 +108,106 @@ fn first_line_of_the_listing() {
         (read.width, read.mcs, read.length, read.flags),
         (s.width, s.mcs, s.length, s.flags)
     );
+}
+
+#[test]
+fn p12_mixed_20_one_stream_pilots() {
+    let pilots = [[1.0, 1.0, 1.0, -1.0], [-1.0, -1.0, 1.0, -1.0]];
+    for (symbol, want) in (0..).zip(pilots) {
+        let mut out = [9.0f32; 112];
+        assert_eq!(points(GOOD, &[0x5A], symbol, &mut out), Ok(112));
+        assert_eq!([7, 21, 34, 48].map(|place| out[2 * place]), want);
+        for place in [7, 21, 34, 48] {
+            assert_eq!(out[2 * place + 1].to_bits(), 0);
+        }
+        let signs = [-21, -7, 7, 21].map(|k| carrier(GOOD, &[0x5A], symbol, 0, k));
+        assert_eq!(signs, want.map(|sign| Ok(Carrier::Pilot(sign))));
+    }
+}
+
+#[test]
+fn the_symbol_equal_to_the_count_is_7() {
+    let mut out = [9.0f32; 112];
+    assert_eq!(points(GOOD, &[0], 2, &mut out), Err(Refusal::Place));
+    assert_eq!(out, [9.0; 112]);
+    assert_eq!(points(GOOD, &[0], 1, &mut out), Ok(112));
+    assert_eq!(carrier(GOOD, &[0], 2, 0, 0), Err(Refusal::Place));
+}
+
+#[test]
+fn one_float_too_few_is_8_and_a_longer_slice_is_no_refusal() {
+    for (mcs, width, need) in [(0, 20, 112), (31, 20, 448), (0, 40, 228), (31, 40, 912)] {
+        let s = RawSettings { mcs, width, ..GOOD };
+        let mut out = [9.0f32; 1000];
+        let short = points(s, &[0], 0, &mut out[..need - 1]);
+        assert_eq!(short, Err(Refusal::Room));
+        assert_eq!(out, [9.0; 1000]);
+        assert_eq!(points(s, &[0], 0, &mut out), Ok(need));
+        assert!(out[..need].iter().all(|level| level.abs() <= 7.0));
+        assert!(out[need..].iter().all(|rest| *rest == 9.0));
+    }
+}
+
+#[test]
+fn a_payload_slice_longer_than_needed_is_no_refusal() {
+    let mut out = [[9.0f32; 112]; 2];
+    assert_eq!(points(GOOD, &[0x5A], 0, &mut out[0]), Ok(112));
+    assert_eq!(points(GOOD, &[0x5A, 0xFF], 0, &mut out[1]), Ok(112));
+    assert_eq!(out[0], out[1]);
+    assert_eq!(points(GOOD, &[], 0, &mut out[0]), Err(Refusal::Source));
+}
+
+/// Subcarriers -32..31 and -64..63 are asked for; the unused ones are silent.
+#[test]
+fn the_ends_of_the_subcarriers() {
+    for (width, lowest, highest) in [(20, -32, 31), (40, -64, 63)] {
+        let s = RawSettings { width, ..GOOD };
+        for k in [lowest, highest, 0] {
+            assert_eq!(carrier(s, &[0], 0, 0, k), Ok(Carrier::Silent));
+        }
+        for k in [lowest - 1, highest + 1] {
+            assert_eq!(carrier(s, &[0], 0, 0, k), Err(Refusal::Place));
+        }
+    }
+}
+
+/// IEEE 802.11a, annex G: the example's message, scrambled with seed 93 and coded at rate 3/4, begins with these 192 coded
+/// bits. MCS 4 at 20 MHz codes it alike; here they are read back out of symbol 0's points.
+#[test]
+fn published_annex_g_coded_bits() {
+    let message = "0402002e006008cd37a60020d6013cf1006008ad3baf00004a6f792c2062726967687420737061726b206f66\
+                   20646976696e6974792c0a4461756768746572206f6620456c797369756d2c0a466972652d696e7369726564\
+                   2077652074726561673321b6";
+    let payload: Vec<u8> = (0..100)
+        .map(|j| u8::from_str_radix(&message[2 * j..2 * j + 2], 16).unwrap())
+        .collect();
+    let published = "001010110000100010100001111100001001110110110101100110100001110101001010111110111110100011000010\
+                     100011111100000011001000011100111100000001000011111000000001100111100000110100111110101110110010";
+    let s = RawSettings {
+        mcs: 4,
+        length: 100,
+        seed: 93,
+        ..GOOD
+    };
+    let mut out = [0.0; 112];
+    points(s, &payload, 0, &mut out).unwrap();
+    let label: String = (0..56)
+        .filter(|place| ![7, 21, 34, 48].contains(place))
+        .flat_map(|place| [out[2 * place], out[2 * place + 1]])
+        .map(|level| match level as i32 {
+            -3 => "00",
+            -1 => "01",
+            1 => "11",
+            _ => "10",
+        })
+        .collect();
+    assert_eq!((label.len(), published.len()), (208, 192));
+    // Bit k of the only stream stands at its place in the label.
+    let coded: String = (0..192)
+        .map(|k| second::place(20, 4, 0, k).unwrap() as usize)
+        .map(|place| &label[place..place + 1])
+        .collect();
+    assert_eq!(coded, published);
 }
 
 /// IEEE 802.11, clause 20: the check bits of `15 40 100` in order of transmission.

@@ -1,6 +1,6 @@
 use mathlib.Core.Path.{_∙_, ap, subst, sym}
 use Prim.Native.Nat.{ℕ, _<_}
-use Rattle.capi.specs.Results.{minus}
+use Rattle.laws.specs.Integers.{minus}
 use Rattle.capi.proofs.Minus.{number-small}
 use borrow.Author.Needs.{needs}
 use Rattle.capi.proofs.refused.Statement.{statement}

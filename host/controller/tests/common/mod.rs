@@ -2,7 +2,7 @@
 
 #![allow(dead_code)]
 
-use controller::RawSettings;
+use controller::{Carrier, RawSettings};
 
 /// xorshift64*: the same numbers on every run.
 pub struct Draw(u64);
@@ -25,6 +25,10 @@ impl Draw {
 
     pub fn of<T: Copy>(&mut self, choices: &[T]) -> T {
         choices[self.below(choices.len() as u64) as usize]
+    }
+
+    pub fn bytes(&mut self, count: usize) -> Vec<u8> {
+        (0..count).map(|_| self.next() as u8).collect()
     }
 }
 
@@ -59,4 +63,27 @@ pub fn second_settings(s: RawSettings) -> second::Settings {
 /// A refusal's number, or the value.
 pub fn numbered<T>(result: Result<T, controller::Refusal>) -> Result<T, u32> {
     result.map_err(|r| r.number())
+}
+
+/// The floats by their bits: equal floats here are equal numbers with equal zeros and equal NaNs.
+pub fn bits(floats: &[f32]) -> Vec<u32> {
+    floats.iter().map(|f| f.to_bits()).collect()
+}
+
+/// The lowest and the highest subcarrier that the question takes.
+pub fn question_range(width: u32) -> (i32, i32) {
+    if width == 40 {
+        (-64, 63)
+    } else {
+        (-32, 31)
+    }
+}
+
+/// The question's answer by the bits of its floats: none, the pilot's sign, or the two levels.
+pub fn carried(answer: Carrier) -> Vec<u32> {
+    match answer {
+        Carrier::Silent => vec![],
+        Carrier::Pilot(sign) => vec![sign.to_bits()],
+        Carrier::Data { first, second } => vec![first.to_bits(), second.to_bits()],
+    }
 }

@@ -8,7 +8,8 @@ use Rattle.laws.specs.Test.{among}
 use Rattle.laws.proofs.Filling.{fill-at}
 use Rattle.chain.specs.Interleaver.{source}
 use Rattle.chain.proofs.InterleaverLaws.{plan-block}
-use Rattle.coding.proofs.SourceLaws.{small, axis-known, source-small, parsed-table}
+use Rattle.chain.proofs.Counts.{axis-known}
+use Rattle.coding.proofs.SourceLaws.{small, source-small, parsed-table}
 use Rattle.coding.proofs.sources.label_sources.Statement.{statement}
 use Rattle.coding.proofs.sources.label_sources.Tie as tie
 
@@ -72,7 +73,7 @@ parse-requires c κs =
     let p = a .args .plan in
     let t = first .stream-sources .ensures in
     record {
-      axis = subst (λ (s : ℕ). T (among (1 ∷ 2 ∷ 3 ∷ []) s)) (sym (axis .axis-bits .ensures)) (axis-known p (a .pre .fits));
+      axis = subst (λ (s : ℕ). T (among (1 ∷ 2 ∷ 3 ∷ []) s)) (sym (axis .axis-bits .ensures)) (axis-known (p .bits) (a .pre .fits .bits));
       few-streams = small p (a .pre .fits) .streams;
       one-or-two = a .pre .fits .encoders;
       few = small p (a .pre .fits) .block;

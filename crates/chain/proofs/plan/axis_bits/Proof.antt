@@ -1,7 +1,7 @@
 use native.Mathlib.Omega.{arith}
 use Rattle.chain.specs.Parser.{axisBits}
-use Rattle.coding.proofs.sources.axis_bits.Statement.{statement}
-use Rattle.coding.proofs.sources.axis_bits.Tie as tie
+use Rattle.chain.proofs.plan.axis_bits.Statement.{statement}
+use Rattle.chain.proofs.plan.axis_bits.Tie as tie
 
 returns : tie.Need-returns
 unfolding axisBits

@@ -1,0 +1,4 @@
+pub mod FrameBits
+pub mod Calls
+pub mod Demand3
+pub mod Worked

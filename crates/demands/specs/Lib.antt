@@ -1,0 +1,3 @@
+pub mod Frames
+pub mod Demand3
+pub mod Worked

@@ -1,0 +1,2 @@
+// The customer's demands of the calls themselves.
+pub mod two;

@@ -1,0 +1,88 @@
+// Demand 3 of two calls: each function makes the same call for two frames and promises the demand's sentences of what came back and of the lent slices.
+use frame::points::PointsAnswer;
+use frame::points::points;
+use frame::query::QueryAnswer;
+use frame::query::subcarrier;
+use settings::settings::RawSettings;
+use settings::symbols::Count;
+use settings::symbols::symbol_count;
+use signal::ht_sig::Written;
+use signal::ht_sig::write;
+ghost use Rattle.demands.specs.Demand3.{SameCount, SameSignal, SamePoints, SameQuery, LocalPoints, LocalQuery, DifferingPoints, SeedPoints};
+
+pub struct TwoCounts {
+    pub one: Count,
+    pub other: Count,
+}
+
+pub struct TwoWritten {
+    pub one: Written,
+    pub other: Written,
+}
+
+pub struct TwoPoints {
+    pub one: PointsAnswer,
+    pub other: PointsAnswer,
+}
+
+pub struct TwoAnswers {
+    pub one: QueryAnswer,
+    pub other: QueryAnswer,
+}
+
+pub fn two_counts(raw: RawSettings, other_raw: RawSettings) -> TwoCounts
+    ensures { λ r. ⌜ SameCount raw «other_raw» (r .one) (r .other) ⌝ }
+{
+    let one = symbol_count(raw);
+    let other = symbol_count(other_raw);
+    TwoCounts { one, other }
+}
+
+pub fn two_signals(
+    raw: RawSettings,
+    other_raw: RawSettings,
+    out: &mut [u8],
+    other_out: &mut [u8],
+) -> TwoWritten
+    ensures { λ r. ⌜ SameSignal raw «other_raw» (now (out .entry)) (now («other_out» .entry)) (r .one) (r .other) (now (out .exit)) (now («other_out» .exit)) ⌝ }
+{
+    let one = write(raw, out);
+    let other = write(other_raw, other_out);
+    TwoWritten { one, other }
+}
+
+pub fn two_points(
+    raw: RawSettings,
+    other_raw: RawSettings,
+    payload: &[u8],
+    other_payload: &[u8],
+    symbol: u64,
+    out: &mut [f32],
+    other_out: &mut [f32],
+) -> TwoPoints
+    ensures alike { λ r. ⌜ SamePoints raw «other_raw» (now (payload .entry)) (now («other_payload» .entry)) symbol (now (out .entry)) (now («other_out» .entry)) (r .one) (r .other) (now (out .exit)) (now («other_out» .exit)) ⌝ }
+    ensures local { λ r. ⌜ LocalPoints raw «other_raw» (now (payload .entry)) (now («other_payload» .entry)) symbol (now (out .entry)) (now («other_out» .entry)) (r .one) (r .other) (now (out .exit)) (now («other_out» .exit)) ⌝ }
+    ensures differing { λ r. ⌜ DifferingPoints raw «other_raw» (now (payload .entry)) (now («other_payload» .entry)) symbol (now (out .entry)) (now («other_out» .entry)) (r .one) (r .other) (now (out .exit)) (now («other_out» .exit)) ⌝ }
+    ensures seeded { λ r. ⌜ SeedPoints raw «other_raw» (now (payload .entry)) (now («other_payload» .entry)) symbol (now (out .entry)) (now («other_out» .entry)) (r .one) (r .other) (now (out .exit)) (now («other_out» .exit)) ⌝ }
+{
+    let one = points(raw, payload, symbol, out);
+    let other = points(other_raw, other_payload, symbol, other_out);
+    TwoPoints { one, other }
+}
+
+pub fn two_queries(
+    raw: RawSettings,
+    other_raw: RawSettings,
+    payload: &[u8],
+    other_payload: &[u8],
+    symbol: u64,
+    stream: u64,
+    at: i32,
+) -> TwoAnswers
+    ensures alike { λ r. ⌜ SameQuery raw «other_raw» (now (payload .entry)) (now («other_payload» .entry)) symbol (r .one) (r .other) ⌝ }
+    ensures local { λ r. ⌜ LocalQuery raw «other_raw» (now (payload .entry)) (now («other_payload» .entry)) symbol (r .one) (r .other) ⌝ }
+{
+    let one = subcarrier(raw, payload, symbol, stream, at);
+    let other = subcarrier(other_raw, other_payload, symbol, stream, at);
+    TwoAnswers { one, other }
+}

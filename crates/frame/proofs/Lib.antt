@@ -1,0 +1,4 @@
+pub mod FrameLaws
+pub mod Refusals
+pub mod Tied
+pub mod PointsLaws

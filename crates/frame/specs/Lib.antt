@@ -1,0 +1,4 @@
+pub mod Points
+pub mod Query
+pub mod Asked
+pub mod Statements

@@ -1,0 +1,3 @@
+pub mod Symbol
+pub mod Asked
+pub mod Shown

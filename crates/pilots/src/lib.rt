@@ -1,0 +1,2 @@
+// The pilots' signs.
+pub mod pilot;

@@ -1,0 +1,2 @@
+pub mod SubcarrierLaws
+pub mod RunLaws

@@ -1,0 +1,2 @@
+pub mod Subcarriers
+pub mod Runs

@@ -1,0 +1,2 @@
+// What the subcarriers of a channel are used for.
+pub mod layout;

@@ -1,0 +1,393 @@
+//! Times the core's points calls beside two Rust programs of the same steps: a plain one, bit by bit and without tables,
+//! and the same tidied. Before it measures, it compares the three by bits on every symbol that it will measure.
+//!
+//! The first argument is the number of runs, 21 without one.
+
+#![deny(unsafe_code)]
+
+#[allow(unsafe_code)]
+mod clock;
+mod plain;
+mod tidy;
+
+use controller::{carrier, floats_per_symbol, symbol_count, Carrier, RawSettings, Refusal};
+use std::hint::black_box;
+use std::time::{Duration, Instant};
+
+/// A points call.
+type Points = fn(RawSettings, &[u8], u32, &mut [f32]) -> Result<usize, Refusal>;
+
+const NAMES: [&str; 3] = ["core", "plain", "tidied"];
+const PROGRAMS: [Points; 3] = [core_points, plain::points, tidy::points];
+
+fn core_points(
+    s: RawSettings,
+    payload: &[u8],
+    symbol: u32,
+    out: &mut [f32],
+) -> Result<usize, Refusal> {
+    controller::points(s, payload, symbol, out)
+}
+
+/// The measured frames: MCS and width.
+const CASES: [(u32, u32); 3] = [(31, 40), (15, 20), (0, 20)];
+
+fn settings(mcs: u32, width: u32, length: u32) -> RawSettings {
+    RawSettings {
+        width,
+        mcs,
+        format: 0,
+        length,
+        seed: 93,
+        smoothing: 1,
+        not_sounding: 1,
+        aggregation: 0,
+        short_guard: 0,
+    }
+}
+
+/// The same bytes on every run (xorshift64*).
+fn random_bytes(count: usize) -> Vec<u8> {
+    let mut state = 0x9E37_79B9_7F4A_7C15u64;
+    (0..count)
+        .map(|_| {
+            state ^= state >> 12;
+            state ^= state << 25;
+            state ^= state >> 27;
+            (state.wrapping_mul(0x2545_F491_4F6C_DD1D) >> 56) as u8
+        })
+        .collect()
+}
+
+/// A frame with what is asked of it.
+struct Frame {
+    s: RawSettings,
+    payload: Vec<u8>,
+    symbols: u32,
+    /// The floats of one symbol.
+    floats: usize,
+}
+
+/// What the question is asked of: a stream, a data subcarrier, and where its point begins in the floats.
+#[derive(Clone, Copy)]
+struct Place {
+    stream: u32,
+    subcarrier: i32,
+    first_float: usize,
+}
+
+impl Frame {
+    fn new(s: RawSettings) -> Frame {
+        Frame {
+            s,
+            payload: random_bytes(s.length as usize),
+            symbols: symbol_count(s).expect("accepted settings") as u32,
+            floats: floats_per_symbol(s).expect("accepted settings"),
+        }
+    }
+
+    /// The question's place in a symbol, another one each time.
+    fn place(&self, symbol: u32) -> Place {
+        let (inner, outer, pilots): (i32, i32, &[i32]) = if self.s.width == 40 {
+            (2, 58, &[11, 25, 53])
+        } else {
+            (1, 28, &[7, 21])
+        };
+        let used: Vec<i32> = (-outer..=-inner).chain(inner..=outer).collect();
+        let streams = self.s.mcs / 8 + 1;
+        let stream = symbol % streams;
+        // Every 13th subcarrier in turn, or the next one where that is a pilot.
+        let mut index = symbol as usize * 13 % used.len();
+        while pilots.contains(&used[index].abs()) {
+            index += 1;
+        }
+        Place {
+            stream,
+            subcarrier: used[index],
+            first_float: 2 * (used.len() * stream as usize + index),
+        }
+    }
+
+    /// The first symbol on which the programs differ by a bit, or on which the question and the first program do.
+    fn disagreement(&self, programs: [Points; 3]) -> Option<u32> {
+        (0..self.symbols).find(|symbol| !self.agree(programs, *symbol))
+    }
+
+    fn agree(&self, programs: [Points; 3], symbol: u32) -> bool {
+        let [one, two, three] = programs.map(|points| {
+            let mut out = vec![f32::NAN; self.floats];
+            let answer = points(self.s, &self.payload, symbol, &mut out);
+            let bits: Vec<u32> = out.iter().map(|f| f.to_bits()).collect();
+            (answer, bits)
+        });
+        let place = self.place(symbol);
+        let answer = carrier(
+            self.s,
+            &self.payload,
+            symbol,
+            place.stream,
+            place.subcarrier,
+        );
+        let Ok(Carrier::Data { first, second }) = answer else {
+            return false;
+        };
+        let point = if self.s.width == 40 && place.subcarrier > 0 {
+            [0.0 - second, first]
+        } else {
+            [first, second]
+        };
+        one.0 == Ok(self.floats)
+            && one == two
+            && one == three
+            && one.1[place.first_float..][..2] == point.map(f32::to_bits)
+    }
+}
+
+/// What one run took.
+#[derive(Clone, Copy)]
+struct Time {
+    cpu: Duration,
+    wall: Duration,
+}
+
+fn time(work: impl FnOnce()) -> Time {
+    let (wall, cpu) = (Instant::now(), clock::thread_cpu_time());
+    work();
+    Time {
+        cpu: clock::thread_cpu_time() - cpu,
+        wall: wall.elapsed(),
+    }
+}
+
+/// All symbols of the frame, one call each, into one buffer.
+fn time_points(points: Points, frame: &Frame, out: &mut [f32]) -> Time {
+    time(|| {
+        for symbol in 0..frame.symbols {
+            let answer = points(frame.s, black_box(&frame.payload), symbol, out);
+            assert!(black_box(answer).is_ok());
+            black_box(&mut *out);
+        }
+    })
+}
+
+/// One question of each symbol of the frame.
+fn time_question(frame: &Frame, places: &[Place]) -> Time {
+    time(|| {
+        for (symbol, place) in (0..).zip(places) {
+            let payload = black_box(&frame.payload);
+            let answer = carrier(frame.s, payload, symbol, place.stream, place.subcarrier);
+            assert!(black_box(answer).is_ok());
+        }
+    })
+}
+
+/// The middle one of the sorted durations (of an even number the later of two), in milliseconds.
+fn median(mut durations: Vec<Duration>) -> f64 {
+    durations.sort();
+    durations[durations.len() / 2].as_secs_f64() * 1e3
+}
+
+/// Medians in milliseconds: of the three programs, then of the question.
+struct Medians {
+    cpu: [f64; 4],
+    wall: [f64; 4],
+}
+
+fn measure(frame: &Frame, runs: usize) -> Medians {
+    let places: Vec<Place> = (0..frame.symbols).map(|n| frame.place(n)).collect();
+    let mut out = vec![0.0; frame.floats];
+    let mut times: [Vec<Time>; 4] = Default::default();
+    // The first round warms up and is not counted.
+    for round in 0..=runs {
+        for turn in 0..times.len() {
+            let subject = (turn + round) % times.len();
+            let took = match PROGRAMS.get(subject) {
+                Some(points) => time_points(*points, frame, &mut out),
+                None => time_question(frame, &places),
+            };
+            if round > 0 {
+                times[subject].push(took);
+            }
+        }
+    }
+    let medians = |of: fn(&Time) -> Duration| {
+        [0, 1, 2, 3].map(|subject| median(times[subject].iter().map(of).collect()))
+    };
+    Medians {
+        cpu: medians(|time| time.cpu),
+        wall: medians(|time| time.wall),
+    }
+}
+
+fn report(frame: &Frame, medians: &Medians) {
+    println!("clock  program         ms  us/symbol  to plain  to tidied");
+    for (clock, ms) in [("cpu", medians.cpu), ("wall", medians.wall)] {
+        let us = ms.map(|ms| ms * 1e3 / f64::from(frame.symbols));
+        let [core, plain, tidied, question] = ms;
+        for (program, name) in NAMES.iter().enumerate() {
+            println!(
+                "{clock:5}  {name:7} {:>10.3} {:>10.3} {:>9.3} {:>10.3}",
+                ms[program],
+                us[program],
+                ms[program] / plain,
+                ms[program] / tidied
+            );
+        }
+        println!(
+            "{clock:5}  one question {:.3} us: {:.3} of one points call of the core",
+            us[3],
+            question / core
+        );
+    }
+}
+
+fn main() {
+    let runs = match std::env::args().nth(1).map(|runs| runs.parse()) {
+        None => 21,
+        Some(Ok(runs)) if runs > 0 => runs,
+        _ => {
+            eprintln!("usage: bench [number of runs, 21 if not given]");
+            std::process::exit(2);
+        }
+    };
+    println!(
+        "Frames of 65,535 bytes, random payload, seed 93, mixed format; one points call for each symbol in order."
+    );
+    println!(
+        "Medians of {runs} runs, interleaved in one process with the order rotated, after one run that is not counted."
+    );
+    println!(
+        "The points buffer is not cleared between calls; working memory that a call clears is in its time."
+    );
+    println!("cpu is the thread's CPU time, wall the time that passed.");
+    for (mcs, width) in CASES {
+        let frame = Frame::new(settings(mcs, width, 65_535));
+        println!();
+        println!(
+            "MCS {mcs}, {width} MHz: {} symbols of {} floats",
+            frame.symbols, frame.floats
+        );
+        if let Some(symbol) = frame.disagreement(PROGRAMS) {
+            eprintln!("the programs disagree on symbol {symbol}");
+            std::process::exit(1);
+        }
+        println!("core, plain and tidied agree by bits on every symbol");
+        report(&frame, &measure(&frame, runs));
+    }
+}
+
+#[cfg(test)]
+mod tests {
+    use super::*;
+
+    fn bits(floats: &[f32]) -> Vec<u32> {
+        floats.iter().map(|f| f.to_bits()).collect()
+    }
+
+    /// Every symbol of frames of every MCS, width and format and some short lengths, with three floats past the points.
+    #[test]
+    fn plain_and_tidied_agree_with_the_core() {
+        let mut symbols = 0;
+        for width in [20, 40] {
+            for mcs in 0..32 {
+                for length in [1, 2, 3, 7, 8, 60, 333] {
+                    for format in 0..2 {
+                        let mut frame = Frame::new(settings(mcs, width, length));
+                        frame.s.format = format;
+                        frame.s.seed = 1 + (31 * mcs + 7 * length) % 127;
+                        for symbol in 0..frame.symbols {
+                            let [core, plain, tidied] = PROGRAMS.map(|points| {
+                                let mut out = vec![9.0; frame.floats + 3];
+                                let answer = points(frame.s, &frame.payload, symbol, &mut out);
+                                (answer, bits(&out))
+                            });
+                            assert_eq!(core.0, Ok(frame.floats));
+                            assert!(core == plain, "plain: symbol {symbol} of {:?}", frame.s);
+                            assert!(core == tidied, "tidied: symbol {symbol} of {:?}", frame.s);
+                            symbols += 1;
+                        }
+                    }
+                }
+            }
+        }
+        assert_eq!(symbols, 2 * (65 + 65 + 65 + 70 + 72 + 189 + 857));
+    }
+
+    /// Refusals 1 to 8, several at a time, in the same order; nothing is written.
+    #[test]
+    fn plain_and_tidied_refuse_as_the_core() {
+        let good = settings(9, 40, 50);
+        let payload = random_bytes(50);
+        let mut refused = 0;
+        for mask in 1..256u32 {
+            let bad = |number: u32| mask >> (number - 1) & 1 == 1;
+            let s = RawSettings {
+                width: if bad(1) { 30 } else { good.width },
+                mcs: if bad(2) { 32 } else { good.mcs },
+                format: if bad(3) { 2 } else { good.format },
+                length: if bad(4) { 65_536 } else { good.length },
+                seed: if bad(5) { 128 } else { good.seed },
+                ..good
+            };
+            let payload = &payload[..if bad(6) { 49 } else { 50 }];
+            let symbol = if bad(7) { 2 } else { 1 };
+            let room = if bad(8) { 455 } else { 456 };
+            for points in PROGRAMS {
+                let mut out = vec![9.0; room];
+                let answer = points(s, payload, symbol, &mut out);
+                assert_eq!(
+                    answer.map_err(Refusal::number),
+                    Err(mask.trailing_zeros() + 1)
+                );
+                assert_eq!(bits(&out), vec![9f32.to_bits(); room]);
+                refused += 1;
+            }
+        }
+        assert_eq!(refused, 3 * 255);
+    }
+
+    /// What is measured is compared first: the question's places are data, and agree with the points.
+    #[test]
+    fn the_measured_frames_agree() {
+        for (mcs, width) in CASES {
+            let frame = Frame::new(settings(mcs, width, 2_000));
+            assert_eq!(frame.disagreement(PROGRAMS), None);
+            assert!(frame.symbols > 7);
+        }
+    }
+
+    /// The plain program with one bit of one symbol turned over: a zero gets a sign.
+    fn nearly_plain(
+        s: RawSettings,
+        payload: &[u8],
+        symbol: u32,
+        out: &mut [f32],
+    ) -> Result<usize, Refusal> {
+        let answer = plain::points(s, payload, symbol, out);
+        if symbol == 5 {
+            out[1] = -out[1];
+        }
+        answer
+    }
+
+    #[test]
+    fn a_difference_in_one_bit_is_found() {
+        let frame = Frame::new(settings(0, 20, 60));
+        assert_eq!(frame.disagreement(PROGRAMS), None);
+        let [core, plain, tidied] = PROGRAMS;
+        for programs in [
+            [nearly_plain, plain, tidied],
+            [core, nearly_plain, tidied],
+            [core, plain, nearly_plain],
+        ] {
+            assert_eq!(frame.disagreement(programs), Some(5));
+        }
+    }
+
+    #[test]
+    fn the_median_is_the_middle_one() {
+        let ms = |n: u64| Duration::from_millis(n);
+        assert_eq!(median(vec![ms(9), ms(1), ms(2)]), 2.0);
+        assert_eq!(median(vec![ms(5)]), 5.0);
+    }
+}
