@@ -46,6 +46,7 @@ abbrev pub intoBy : PointsAnswer → (symbol : ℕ → Float) → List Float →
 intoBy (Written count) symbol out = firsts symbol count ++ drop count out
 intoBy (PointsRefused r) symbol out = out
 
+-- the floats of the frame's symbol; a refused frame has none, and what stands for them is never written
 abbrev pub floatsIn : Checked → (payload : List ℕ) (symbol g : ℕ) → Float
 floatsIn (Accepted s) payload symbol g = pointFloat s payload symbol g
 floatsIn (Refused r) payload symbol g = nan

@@ -5,7 +5,7 @@ use mathlib.Core.List.{[], _∷_}
 use Prim.Native.Nat.{ℕ, _+_, _-_, _*_, _<_, _≤_}
 use native.Mathlib.Omega.{arith}
 use lib.Dec.{T, eqb, ltb, eqb→eq}
-use lib.ListN.{getD}
+use lib.ListN.{length, getD}
 use lib.IntN.{ℤ, pos, negsuc, _+ℤ_}
 use lib.Signed.{ltZ}
 use borrow.Author.Tests.{ltb-false, lt-ltb, le-ltb}
@@ -254,3 +254,12 @@ carrier-place width h c l =
       inside = carriers width h c l .0;
       carries = code-same (useOf width (subcarrierAt width (carrierAt width c))) (Data c) (carriers width h c l .1);
     }
+
+-- the numbers of places, pilots and data carriers are those of the lists
+abbrev pub sizesClaim : Claim
+sizesClaim = each widths λ w.
+    length (usedSubcarriers w) is placesOf w and length (pilotSubcarriers w) is pilotsOf w and length (dataSubcarriers w) is carriersOf w
+
+pub sizes-are : Holds sizesClaim
+unfolding usedSubcarriers pilotSubcarriers dataSubcarriers
+sizes-are = sound sizesClaim tt

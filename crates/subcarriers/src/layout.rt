@@ -35,6 +35,7 @@ pub fn is_outside(width: usize, subcarrier: i32) -> bool
     (subcarrier < -32) | (subcarrier > 31)
 }
 
+// The runs below 0 and then those above: the first place, the first data carrier and the number of carriers of each.
 const PLACES_20: [u8; 6] = [0, 8, 22, 28, 35, 49];
 
 const CARRIERS_20: [u8; 6] = [0, 7, 20, 26, 32, 45];
