@@ -2,15 +2,16 @@
 // The decisions, the lines and the rows are the library's; this program only reads and writes.
 use libc::STDIN_FILENO;
 use libc::STDOUT_FILENO;
-use listing::lines;
-use listing::lines::NextLine;
-use listing::printing;
+use lines::lines::NextLine;
+use lines::lines::next_line;
+use lines::lines::too_long;
 use listing::rows;
+use text::printing;
 
 fn print_lines(input: &[u8]) {
     let mut at = 0;
     loop {
-        let found = lines::next_line(input, at);
+        let found = next_line(input, at);
         let NextLine::Line { start, end, next } = found else {
             return;
         };
@@ -28,7 +29,7 @@ fn main() {
     let count = io::read_full(STDIN_FILENO, &mut space);
     let input = &space[..count];
     io::write_all(STDOUT_FILENO, &printing::header());
-    let refused = lines::too_long(input);
+    let refused = too_long(input);
     if refused {
         io::write_all(STDOUT_FILENO, &printing::too_long_text());
         return;

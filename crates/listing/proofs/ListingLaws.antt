@@ -3,12 +3,12 @@ use mathlib.Core.Path.{_≡_, refl, ap}
 use mathlib.Core.List.{List, [], _++_}
 use Prim.Native.Nat.{ℕ, _-_}
 use lib.ListN.{take, drop}
-use Rattle.listing.specs.declared.lines.NextLine.{NextLine}
-use Rattle.listing.specs.declared.lines.NextLine.the-variants.{Line, End}
-use Rattle.listing.specs.Lines.{linesOf, nextLineOf}
+use Rattle.lines.specs.declared.lines.NextLine.{NextLine}
+use Rattle.lines.specs.declared.lines.NextLine.the-variants.{Line, End}
+use Rattle.lines.specs.Lines.{linesOf, nextLineOf}
 use Rattle.listing.specs.Rows.{rowOf}
 use Rattle.listing.specs.Listing.{rowsOf}
-use Rattle.listing.proofs.LineLaws.{next-line-end, next-line-lines}
+use Rattle.lines.proofs.LineLaws.{next-line-end, next-line-lines}
 
 -- what is left to print from a place on
 abbrev pub rowsFrom : List ℕ → ℕ → List ℕ

@@ -16,14 +16,14 @@ use Rattle.settings.specs.Symbols.{symbolsOf, countOf}
 use Rattle.signal.specs.HtSig.{sigBytes, writtenInto}
 use Rattle.settings.proofs.SettingsLaws.{right, symbols-few}
 use Rattle.signal.proofs.HtSigLaws.{rest-stays}
-use Rattle.listing.specs.declared.parsing.Parsed.{Parsed}
-use Rattle.listing.specs.declared.parsing.Parsed.the-variants.{Numbers, Malformed}
-use Rattle.listing.specs.declared.printing.Row.{Row}
-use Rattle.listing.specs.Parsing.{parsedOf, Small}
-use Rattle.listing.specs.Printing.{rowHolding, emptyRow, pushed, pushedAll, decimal, hexBytes}
+use Rattle.lines.specs.declared.parsing.Parsed.{Parsed}
+use Rattle.lines.specs.declared.parsing.Parsed.the-variants.{Numbers, Malformed}
+use Rattle.text.specs.declared.printing.Row.{Row}
+use Rattle.lines.specs.Parsing.{parsedOf, Small}
+use Rattle.text.specs.Printing.{rowHolding, emptyRow, pushed, pushedAll, decimal, hexBytes}
 use Rattle.listing.specs.Rows.{rawFor, inputsText, refusedWord, refusedText, acceptedText, answerText, rowFor, malformedText, rowBy, rowOf, zeros}
-use Rattle.listing.proofs.Decimals.{decimal-short}
-use Rattle.listing.proofs.Pushing.{pushed-all-append, pushed-all-len, pushed-all-holding}
+use Rattle.text.proofs.Decimals.{decimal-short}
+use Rattle.text.proofs.Pushing.{pushed-all-append, pushed-all-len, pushed-all-holding}
 
 -- ---- how long a row is after a push
 

@@ -1,5 +1,2 @@
-pub mod Lines
-pub mod Parsing
-pub mod Printing
 pub mod Rows
 pub mod Listing

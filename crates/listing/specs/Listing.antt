@@ -4,8 +4,8 @@ use mathlib.Core.List.{List, [], _∷_, _++_}
 use Prim.Native.Nat.{ℕ}
 use lib.Dec.{ltb}
 use lib.ListN.{length}
-use Rattle.listing.specs.Lines.{linesOf}
-use Rattle.listing.specs.Printing.{headerText, tooLongText}
+use Rattle.lines.specs.Lines.{linesOf}
+use Rattle.text.specs.Printing.{headerText, tooLongText}
 use Rattle.listing.specs.Rows.{rowOf}
 
 abbrev pub rowsOf : List (List ℕ) → List ℕ

@@ -10,10 +10,10 @@ use Rattle.settings.specs.declared.settings.Checked.the-variants.{Accepted, Ref
 use Rattle.settings.specs.Settings.{checkOf, numberOf}
 use Rattle.settings.specs.Symbols.{symbolsOf}
 use Rattle.signal.specs.HtSig.{fieldsOf, sigBytes}
-use Rattle.listing.specs.declared.parsing.Parsed.{Parsed}
-use Rattle.listing.specs.declared.parsing.Parsed.the-variants.{Numbers, Malformed}
-use Rattle.listing.specs.Parsing.{parsedOf}
-use Rattle.listing.specs.Printing.{decimal, hexBytes}
+use Rattle.lines.specs.declared.parsing.Parsed.{Parsed}
+use Rattle.lines.specs.declared.parsing.Parsed.the-variants.{Numbers, Malformed}
+use Rattle.lines.specs.Parsing.{parsedOf}
+use Rattle.text.specs.Printing.{decimal, hexBytes}
 
 -- "Format is 0, seed 1; smoothing and not sounding are 1, other flags 0"
 abbrev pub rawFor : (mcs width length : ℕ) → RawSettings

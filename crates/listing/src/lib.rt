@@ -1,5 +1,2 @@
 // The listing of symbol counts and HT-SIG bytes, line by line (document 01, 'Checked by hand', its last part).
-pub mod lines;
-pub mod parsing;
-pub mod printing;
 pub mod rows;

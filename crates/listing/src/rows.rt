@@ -1,17 +1,17 @@
 // The row of a line.
-use crate::parsing;
-use crate::parsing::Parsed;
-use crate::printing;
-use crate::printing::Row;
+use lines::parsing;
+use lines::parsing::Parsed;
 use settings::settings::RawSettings;
 use settings::settings::Refusal;
 use settings::settings::number;
 use settings::symbols;
 use settings::symbols::Count;
 use signal::ht_sig;
+use text::printing;
+use text::printing::Row;
 ghost use mathlib.Core.Path.{_≡_};
 ghost use Prim.Native.Nat.{_<_, _≤_};
-ghost use Rattle.listing.specs.Printing.{emptyRow, pushedAll, rowHolding};
+ghost use Rattle.text.specs.Printing.{emptyRow, pushedAll, rowHolding};
 ghost use Rattle.listing.specs.Rows.{zeros, rawFor, inputsText, refusedText, acceptedText, rowFor, malformedText, rowOf};
 ghost use Rattle.signal.specs.HtSig.{writtenInto};
 ghost use lib.ListN.{length};

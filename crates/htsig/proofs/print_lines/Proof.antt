@@ -1,7 +1,7 @@
 use Prim.Native.Nat.{_+_, _-_}
 use mathlib.Core.Path.{_∙_, sym}
 use lib.Seq.{length-take-le}
-use Rattle.listing.proofs.LineLaws.{LineAt, next-line-lines}
+use Rattle.lines.proofs.LineLaws.{LineAt, next-line-lines}
 use Rattle.listing.proofs.RowLaws.{row-fits}
 use lib.ListN.{length}
 use native.Mathlib.Omega.{arith}

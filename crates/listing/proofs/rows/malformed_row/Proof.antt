@@ -2,8 +2,8 @@
 use mathlib.Core.Path.{ap, _∙_}
 use native.Mathlib.Omega.{arith}
 use Rattle.listing.proofs.RowLaws.{size}
-use Rattle.listing.specs.declared.printing.Row.{Row}
-use Rattle.listing.specs.Printing.{pushedAll}
+use Rattle.text.specs.declared.printing.Row.{Row}
+use Rattle.text.specs.Printing.{pushedAll}
 use Rattle.listing.specs.Rows.{malformedText}
 use borrow.Author.Needs.{needs}
 use Rattle.listing.proofs.rows.malformed_row.Statement.{statement}

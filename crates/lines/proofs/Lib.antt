@@ -1,0 +1,4 @@
+pub mod Stretches
+pub mod LineLaws
+pub mod Values
+pub mod Grammar

@@ -1,9 +1,0 @@
-use mathlib.Core.Path.{refl}
-use Rattle.listing.proofs.lines.is_in_line.Statement.{statement}
-use Rattle.listing.proofs.lines.is_in_line.Tie as tie
-
-returns : tie.Need-returns
-returns c = refl
-
-pub is-in-line-spec : {M : Type 1} → statement M
-is-in-line-spec = tie.close (tie.spec returns)

@@ -1,9 +1,0 @@
-use mathlib.Core.Path.{refl}
-use Rattle.listing.proofs.printing.header.Statement.{statement}
-use Rattle.listing.proofs.printing.header.Tie as tie
-
-returns : tie.Need-returns
-returns c = refl
-
-pub header-spec : {M : Type 1} → statement M
-header-spec = tie.close (tie.spec returns)

@@ -1,9 +1,0 @@
-use mathlib.Core.Path.{refl}
-use Rattle.listing.proofs.printing.too_long_text.Statement.{statement}
-use Rattle.listing.proofs.printing.too_long_text.Tie as tie
-
-returns : tie.Need-returns
-returns c = refl
-
-pub too-long-text-spec : {M : Type 1} → statement M
-too-long-text-spec = tie.close (tie.spec returns)
