@@ -40,8 +40,8 @@ use Rattle.frame.specs.declared.query.QueryAnswer.{QueryAnswer}
 use Rattle.frame.specs.declared.query.QueryAnswer.the-variants.{Carries, Refused as QueryRefused}
 use Rattle.frame.specs.Points.{inputOf, labelsOf, pointFloat, floatsOf, pointsOf, pointsInto, pointsNumber}
 use Rattle.frame.specs.Query.{carriedBy, carriedOf, notInFrame, queryOf, queryNumber}
-use Rattle.demands.specs.Frames.{WholePayload, SameBits, SameLevel, SameSymbol, DifferentSymbol, DifferentPoints, AgreeWhereLooked, FirstDiffering}
-use Rattle.demands.specs.Demand3.{Counts, Signals, SameSignal, SamePilots, SamePoints, SameKind, SameQuery, LocalPoints, LocalQuery, DifferingPoints, PayloadsShown, EqualButSeed, SeedPoints, SeedsShown, OfPoints, OfQueries, Demand3a, Demand3b, Demand3c, Demand3d}
+use Rattle.demands.specs.Frames.{WholePayload, SameBits, SameLevel, DifferentSymbol, DifferentPoints, AgreeWhereLooked, FirstDiffering}
+use Rattle.demands.specs.Demand3.{Counts, Signals, SameSignal, SamePilots, SamePoints, SameKind, SameQuery, LocalPoints, LocalQuery, DifferingPoints, PayloadsShown, EqualButSeed, SeedPoints, SeedsShown, AtPoints, OfPoints, AtQueries, OfQueries, Demand3a, Demand3b, Demand3c, Demand3d}
 use Rattle.demands.proofs.FrameBits.{FirstBit, first-bit, frame-bit, frame-local, agree-at, input-apart, first-output, service-apart}
 use Rattle.demands.proofs.Calls.{length-is, Given, given, same-answer, level-at, Asked, answered, carried-data, carried-same}
 
@@ -104,12 +104,7 @@ same-level : (a : RawSettings) (s : Settings) → checkOf a ≡ Accepted s → (
 same-level a s e p q n out out′ ok ok′ g h same =
     ap (toBits binary32) (level-is a s e p n out ok g h ∙ same ∙ sym (level-is a s e q n out′ ok′ g h))
 
--- a sentence of the same settings twice
-twice : (Sentence : (a a′ : RawSettings) (p q : List ℕ) (n : ℕ) (out out′ : List Float) → Type 0)
-    → ((a : RawSettings) (p q : List ℕ) (n : ℕ) (out out′ : List Float) → Sentence a a p q n out out′)
-    → (a a′ : RawSettings) (p q : List ℕ) (n : ℕ) (out out′ : List Float) → a ≡ a′ → Sentence a a′ p q n out out′
-twice Sentence one a a′ p q n out out′ e = subst (λ (b : RawSettings). Sentence a b p q n out out′) e (one a p q n out out′)
-
+-- the pilots' levels after two calls
 pilots-of : (a : RawSettings) (p q : List ℕ) (n : ℕ) (out out′ : List Float) → WholePayload a p → WholePayload a q → length out ≡ length out′
     → (s : Settings) → checkOf a ≡ Accepted s → pointsNumber (pointsOf (checkOf a) (length p) n (length out)) ≡ 0
     → SamePilots s (pointsInto (checkOf a) p n out) (pointsInto (checkOf a) q n out′)
@@ -124,11 +119,8 @@ pilots-of a p q n out out′ wp wq room s e z i f k axis hi hf hx told =
 
 pub same-points : OfPoints SamePoints
 same-points a a′ p q n out out′ e =
-    subst (λ (b : RawSettings). WholePayload a p → WholePayload b q → length out ≡ length out′
-    → (pointsNumber (pointsOf (checkOf a) (length p) n (length out)) ≡ pointsNumber (pointsOf (checkOf b) (length q) n (length out′)))
-    × ((s : Settings) → checkOf a ≡ Accepted s → pointsNumber (pointsOf (checkOf a) (length p) n (length out)) ≡ 0
-    → SamePilots s (pointsInto (checkOf a) p n out) (pointsInto (checkOf b) q n out′))) e
-    (λ wp wq room. (same-number a (checkOf a) refl p q n (length out) (length out′) (wp .0) (wq .0) room, pilots-of a p q n out out′ wp wq room))
+    subst (λ (b : RawSettings). AtPoints SamePoints a b p q n out out′) e
+    (λ _ wp wq room. (same-number a (checkOf a) refl p q n (length out) (length out′) (wp .0) (wq .0) room, pilots-of a p q n out out′ wp wq room)) e
 
 -- what a use carries is of one kind whatever the half labels are
 kind-same : (sign : ℕ → ℤ) (f g : ℕ → Levels) (u : Use) → SameKind (Carries (carriedBy sign f u)) (Carries (carriedBy sign g u))
@@ -136,6 +128,7 @@ kind-same sign f g Silent = refl
 kind-same sign f g (Pilot q) = refl
 kind-same sign f g (Data c) = (pointOf (g c), refl)
 
+-- and so are the answers of two questions, with the same number
 query-kind : (a : RawSettings) (k : Checked) → checkOf a ≡ k → (p q : List ℕ) (n i : ℕ) (z : ℤ) → a .length ≤ length p → a .length ≤ length q
     → (queryNumber (queryOf k p n i z) ≡ queryNumber (queryOf k q n i z)) × SameKind (queryOf k p n i z) (queryOf k q n i z)
 unfolding carriedOf
@@ -156,9 +149,7 @@ query-kind a (Refused r) e p q n i z hp hq = (refl, refl)
 
 pub same-query : OfQueries SameQuery
 same-query a a′ p q n i z e =
-    subst (λ (b : RawSettings). WholePayload a p → WholePayload b q
-    → (queryNumber (queryOf (checkOf a) p n i z) ≡ queryNumber (queryOf (checkOf b) q n i z)) × SameKind (queryOf (checkOf a) p n i z) (queryOf (checkOf b) q n i z)) e
-    (λ wp wq. query-kind a (checkOf a) refl p q n i z (wp .0) (wq .0))
+    subst (λ (b : RawSettings). AtQueries SameQuery a b p q n i z) e (λ _ wp wq. query-kind a (checkOf a) refl p q n i z (wp .0) (wq .0)) e
 
 -- ---- (b)
 
@@ -169,14 +160,13 @@ halves-same s r p q n agree = halves-local (planFor s) (plan-fits s r) (inputOf 
 
 pub local-points : OfPoints LocalPoints
 local-points a a′ p q n out out′ e =
-    subst (λ (b : RawSettings). WholePayload a p → WholePayload b q → length out ≡ length out′
-    → (s : Settings) → checkOf a ≡ Accepted s → pointsNumber (pointsOf (checkOf a) (length p) n (length out)) ≡ 0 → AgreeWhereLooked s n p q
-    → SameSymbol s (pointsInto (checkOf a) p n out) (pointsInto (checkOf b) q n out′)) e
-    (λ wp wq room s k z agree g h.
+    subst (λ (b : RawSettings). AtPoints LocalPoints a b p q n out out′) e
+    (λ _ wp wq room s k z agree g h.
     let ok = both-given a s k p q n (length out) (length out′) (wp .0) (wq .0) room z in
     same-level a s k p q n out out′ (ok .0) (ok .1) g h
-    (symbol-ext (planFor s) (plan-fits s (right a s k)) (labelsOf s p n) (labelsOf s q n) (s .format) n (halves-same s (right a s k) p q n agree) g h))
+    (symbol-ext (planFor s) (plan-fits s (right a s k)) (labelsOf s p n) (labelsOf s q n) (s .format) n (halves-same s (right a s k) p q n agree) g h)) e
 
+-- the question's answer is the same where the half labels are
 query-local : (s : Settings) → Right s → (p q : List ℕ) (n i : ℕ) (z : ℤ) → s .length ≤ length p → s .length ≤ length q → AgreeWhereLooked s n p q
     → queryOf (Accepted s) p n i z ≡ queryOf (Accepted s) q n i z
 query-local s r p q n i z hp hq agree =
@@ -192,13 +182,12 @@ query-local s r p q n i z hp hq agree =
 
 pub local-query : OfQueries LocalQuery
 local-query a a′ p q n i z e =
-    subst (λ (b : RawSettings). WholePayload a p → WholePayload b q → (s : Settings) → checkOf a ≡ Accepted s → AgreeWhereLooked s n p q
-    → queryOf (checkOf a) p n i z ≡ queryOf (checkOf b) q n i z) e
-    (λ wp wq s k agree.
+    subst (λ (b : RawSettings). AtQueries LocalQuery a b p q n i z) e
+    (λ _ wp wq s k agree.
     let l = length-is a s k in
     let hp : s .length ≤ length p = omega (arith, wp .0, l) in
     let hq : s .length ≤ length q = omega (arith, wq .0, l) in
-    rw k (query-local s (right a s k) p q n i z hp hq agree))
+    rw k (query-local s (right a s k) p q n i z hp hq agree)) e
 
 -- ---- (c) and (d): what differs in the half labels shows
 
@@ -323,13 +312,11 @@ payload-shown a s e p q d (low, (high, (apart, lower))) =
 
 pub differing-points : OfPoints DifferingPoints
 differing-points a a′ p q n out out′ e =
-    subst (λ (b : RawSettings). WholePayload a p → WholePayload b q → length out ≡ length out′
-    → (s : Settings) → checkOf a ≡ Accepted s → pointsNumber (pointsOf (checkOf a) (length p) n (length out)) ≡ 0
-    → (d : ℕ) → FirstDiffering a p q d → n ≡ d / planFor s .dbps → DifferentSymbol s (pointsInto (checkOf a) p n out) (pointsInto (checkOf b) q n out′)) e
-    (λ wp wq room s k z d first at.
+    subst (λ (b : RawSettings). AtPoints DifferingPoints a b p q n out out′) e
+    (λ _ wp wq room s k z d first at.
     let ok = both-given a s k p q n (length out) (length out′) (wp .0) (wq .0) room z in
     slices-differ a a s s k k p q n out out′ (ok .0) (ok .1) refl
-    (subst (λ (m : ℕ). Shown s s p q m) (sym at) (payload-shown a s k p q d first)))
+    (subst (λ (m : ℕ). Shown s s p q m) (sym at) (payload-shown a s k p q d first))) e
 
 -- a differing byte has a first differing bit
 first-differing : (a : RawSettings) (p q : List ℕ) → FirstBit p q (a .length) → (d : ℕ) × FirstDiffering a p q d

@@ -117,15 +117,23 @@ abbrev pub Signals : Type 0
 Signals = (a a′ : RawSettings) (out out′ : List ℕ)
     → SameSignal a a′ out out′ (writtenOf (checkOf a) (length out)) (writtenOf (checkOf a′) (length out′)) (writtenInto (checkOf a) out) (writtenInto (checkOf a′) out′)
 
--- a sentence of two points calls holds of the answers and slices that the calls give
-abbrev pub OfPoints : (Sentence : (a a′ : RawSettings) (p q : List ℕ) (n : ℕ) (out out′ : List Float) (r r′ : PointsAnswer) (l l′ : List Float) → Type 0) → Type 0
-OfPoints Sentence = (a a′ : RawSettings) (p q : List ℕ) (n : ℕ) (out out′ : List Float)
-    → Sentence a a′ p q n out out′ (pointsOf (checkOf a) (length p) n (length out)) (pointsOf (checkOf a′) (length q) n (length out′))
+-- a sentence of two points calls, of the answers and slices that the calls give
+abbrev pub AtPoints : (Sentence : (a a′ : RawSettings) (p q : List ℕ) (n : ℕ) (out out′ : List Float) (r r′ : PointsAnswer) (l l′ : List Float) → Type 0)
+    → (a a′ : RawSettings) (p q : List ℕ) (n : ℕ) (out out′ : List Float) → Type 0
+AtPoints Sentence a a′ p q n out out′ =
+    Sentence a a′ p q n out out′ (pointsOf (checkOf a) (length p) n (length out)) (pointsOf (checkOf a′) (length q) n (length out′))
     (pointsInto (checkOf a) p n out) (pointsInto (checkOf a′) q n out′)
 
+abbrev pub OfPoints : (Sentence : (a a′ : RawSettings) (p q : List ℕ) (n : ℕ) (out out′ : List Float) (r r′ : PointsAnswer) (l l′ : List Float) → Type 0) → Type 0
+OfPoints Sentence = (a a′ : RawSettings) (p q : List ℕ) (n : ℕ) (out out′ : List Float) → AtPoints Sentence a a′ p q n out out′
+
+-- a sentence of two questions, of the answers that they give
+abbrev pub AtQueries : (Sentence : (a a′ : RawSettings) (p q : List ℕ) (n : ℕ) (r r′ : QueryAnswer) → Type 0)
+    → (a a′ : RawSettings) (p q : List ℕ) (n i : ℕ) (z : ℤ) → Type 0
+AtQueries Sentence a a′ p q n i z = Sentence a a′ p q n (queryOf (checkOf a) p n i z) (queryOf (checkOf a′) q n i z)
+
 abbrev pub OfQueries : (Sentence : (a a′ : RawSettings) (p q : List ℕ) (n : ℕ) (r r′ : QueryAnswer) → Type 0) → Type 0
-OfQueries Sentence = (a a′ : RawSettings) (p q : List ℕ) (n i : ℕ) (z : ℤ)
-    → Sentence a a′ p q n (queryOf (checkOf a) p n i z) (queryOf (checkOf a′) q n i z)
+OfQueries Sentence = (a a′ : RawSettings) (p q : List ℕ) (n i : ℕ) (z : ℤ) → AtQueries Sentence a a′ p q n i z
 
 -- ---- demand 3 whole
 
