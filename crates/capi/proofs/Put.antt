@@ -10,9 +10,9 @@ use lib.ListN.{length, set, drop}
 use lib.Ieee.{Float}
 use Rattle.settings.specs.declared.settings.Refusal.{Refusal}
 use Rattle.settings.specs.declared.settings.Refusal.the-variants.{Room}
-use Rattle.frame.specs.declared.query.Carried.{Carried}
-use Rattle.frame.specs.declared.query.QueryAnswer.{QueryAnswer}
-use Rattle.frame.specs.declared.query.QueryAnswer.the-variants.{Carries, Refused as QueryRefused}
+use Rattle.query.specs.declared.query.Carried.{Carried}
+use Rattle.query.specs.declared.query.QueryAnswer.{QueryAnswer}
+use Rattle.query.specs.declared.query.QueryAnswer.the-variants.{Carries, Refused as QueryRefused}
 use Rattle.capi.specs.Results.{refusedResult, carriedNumber, carriedInto, carrierResult, carrierInto}
 
 pub one-put : (l : List Float) (x : Float) → 2 ≤ length l → set l 0 x ≡ x ∷ drop 1 l

@@ -19,10 +19,10 @@ use Rattle.signal.specs.declared.ht_sig.SigRead.{SigRead}
 use Rattle.signal.specs.declared.ht_sig.SigRead.the-variants.{Fields, Refused as ReadRefused}
 use Rattle.frame.specs.declared.points.PointsAnswer.{PointsAnswer}
 use Rattle.frame.specs.declared.points.PointsAnswer.the-variants.{Written as PointsWritten, Refused as PointsRefused}
-use Rattle.frame.specs.declared.query.Carried.{Carried}
-use Rattle.frame.specs.declared.query.Carried.the-variants.{Silent, Pilot, Data}
-use Rattle.frame.specs.declared.query.QueryAnswer.{QueryAnswer}
-use Rattle.frame.specs.declared.query.QueryAnswer.the-variants.{Carries, Refused as QueryRefused}
+use Rattle.query.specs.declared.query.Carried.{Carried}
+use Rattle.query.specs.declared.query.Carried.the-variants.{Silent, Pilot, Data}
+use Rattle.query.specs.declared.query.QueryAnswer.{QueryAnswer}
+use Rattle.query.specs.declared.query.QueryAnswer.the-variants.{Carries, Refused as QueryRefused}
 use Rattle.settings.specs.Settings.{numberOf}
 use Rattle.signal.specs.HtSig.{oneIf}
 

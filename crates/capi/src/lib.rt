@@ -1,9 +1,8 @@
 // The calls over the C convention: numbers and slices in, one i64 out, a refusal as its number negated.
 use frame::points;
 use frame::points::PointsAnswer;
-use frame::query;
-use frame::query::Carried;
-use frame::query::QueryAnswer;
+use query::query::Carried;
+use query::query::QueryAnswer;
 use settings::settings::RawSettings;
 use settings::settings::Refusal;
 use settings::settings::number;
@@ -23,7 +22,7 @@ ghost use Rattle.signal.specs.HtSig.{writtenOf, writtenInto, readOf};
 ghost use Rattle.signal.specs.Words.{SigFits};
 ghost use Rattle.laws.specs.Integers.{minus};
 ghost use Rattle.frame.specs.Points.{pointsOf, pointsInto};
-ghost use Rattle.frame.specs.Query.{queryOf};
+ghost use Rattle.query.specs.Query.{queryOf};
 ghost use Rattle.capi.specs.Results.{rawOf, refusedResult, countResult, writtenResult, fieldsNumber, readResult, pointsResult, carriedNumber, carriedInto, carrierResult, carrierInto, IsRefusedQuery};
 
 // The settings of a call: a flag is off at 0 and on at any other number.
@@ -254,7 +253,7 @@ pub extern "C" fn ht_carrier(
         aggregation,
         short_guard,
     );
-    let answer = query::subcarrier(raw, payload, symbol as u64, stream as u64, subcarrier);
+    let answer = query::query::subcarrier(raw, payload, symbol as u64, stream as u64, subcarrier);
     let QueryAnswer::Carries(carried) = answer else {
         return refused(query_refusal(answer));
     };

@@ -27,10 +27,10 @@ use Rattle.mapper.specs.Levels.{Levels, carrierLevels, pointOf}
 use Rattle.pilots.specs.Pilots.{pilotSign}
 use Rattle.mapper.proofs.CarrierLaws.{carrier-ext}
 use Rattle.frame.specs.declared.points.PointsAnswer.the-variants.{Written, Refused as PointsRefused}
-use Rattle.frame.specs.declared.query.Carried.the-variants.{Data as DataPoint}
-use Rattle.frame.specs.declared.query.QueryAnswer.the-variants.{Carries}
+use Rattle.query.specs.declared.query.Carried.the-variants.{Data as DataPoint}
+use Rattle.query.specs.declared.query.QueryAnswer.the-variants.{Carries}
 use Rattle.frame.specs.Points.{labelsOf, pointFloat, floatsOf, pointsOf, pointsInto, pointsNumber}
-use Rattle.frame.specs.Query.{carriedBy, carriedOf, notInFrame, queryOf}
+use Rattle.query.specs.Query.{carriedBy, carriedOf, notInFrame, queryOf}
 
 -- the length of accepted settings is the one given
 pub length-is : (a : RawSettings) (s : Settings) → checkOf a ≡ Accepted s → s .length ≡ a .length

@@ -36,10 +36,10 @@ use Rattle.pilots.specs.Pilots.{pilotSign}
 use Rattle.modulator.specs.Symbol.{streamFloats, symbolFloat}
 use Rattle.modulator.proofs.SymbolLaws.{symbol-ext, pilot-same, label-shown}
 use Rattle.frame.specs.declared.points.PointsAnswer.{PointsAnswer}
-use Rattle.frame.specs.declared.query.QueryAnswer.{QueryAnswer}
-use Rattle.frame.specs.declared.query.QueryAnswer.the-variants.{Carries, Refused as QueryRefused}
+use Rattle.query.specs.declared.query.QueryAnswer.{QueryAnswer}
+use Rattle.query.specs.declared.query.QueryAnswer.the-variants.{Carries, Refused as QueryRefused}
 use Rattle.frame.specs.Points.{inputOf, labelsOf, pointFloat, floatsOf, pointsOf, pointsInto, pointsNumber}
-use Rattle.frame.specs.Query.{carriedBy, carriedOf, notInFrame, queryOf, queryNumber}
+use Rattle.query.specs.Query.{carriedBy, carriedOf, notInFrame, queryOf, queryNumber}
 use Rattle.demands.specs.Frames.{WholePayload, SameBits, SameLevel, DifferentSymbol, DifferentPoints, AgreeWhereLooked, FirstDiffering}
 use Rattle.demands.specs.Demand3.{Counts, Signals, SameSignal, SamePilots, SamePoints, SameKind, SameQuery, LocalPoints, LocalQuery, DifferingPoints, PayloadsShown, EqualButSeed, SeedPoints, SeedsShown, AtPoints, OfPoints, AtQueries, OfQueries, Demand3a, Demand3b, Demand3c, Demand3d}
 use Rattle.demands.proofs.FrameBits.{FirstBit, first-bit, frame-bit, frame-local, agree-at, input-apart, first-output, service-apart}

@@ -19,12 +19,12 @@ use Rattle.signal.specs.declared.ht_sig.Written.the-variants.{Done}
 use Rattle.signal.specs.HtSig.{writtenOf, writtenInto}
 use Rattle.modulator.specs.Symbol.{streamFloats}
 use Rattle.frame.specs.declared.points.PointsAnswer.{PointsAnswer}
-use Rattle.frame.specs.declared.query.QueryAnswer.{QueryAnswer}
-use Rattle.frame.specs.declared.query.QueryAnswer.the-variants.{Carries, Refused}
-use Rattle.frame.specs.declared.query.Carried.the-variants.{Silent, Pilot as PilotSign, Data}
+use Rattle.query.specs.declared.query.QueryAnswer.{QueryAnswer}
+use Rattle.query.specs.declared.query.QueryAnswer.the-variants.{Carries, Refused}
+use Rattle.query.specs.declared.query.Carried.the-variants.{Silent, Pilot as PilotSign, Data}
 use Rattle.mapper.specs.declared.point.Point.{Point}
 use Rattle.frame.specs.Points.{floatsOf, pointsOf, pointsInto, pointsNumber}
-use Rattle.frame.specs.Query.{queryOf, queryNumber}
+use Rattle.query.specs.Query.{queryOf, queryNumber}
 use Rattle.demands.specs.Frames.{WholePayload, SameLevel, SameSymbol, DifferentSymbol, DifferentPoints, AgreeWhereLooked, PayloadsDiffer, FirstDiffering}
 
 -- The two calls of one kind: for raw settings a and a′ and payload slices p and q, answers r and r′, and lent slices that were out and out′ and are l and l′.

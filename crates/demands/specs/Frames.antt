@@ -10,9 +10,9 @@ use Rattle.settings.specs.declared.settings.Settings.{Settings}
 use Rattle.settings.specs.declared.settings.RawSettings.{RawSettings}
 use Rattle.settings.specs.Settings.{planFor}
 use Rattle.signal.specs.Statements.{AreBytes}
-use Rattle.frame.specs.declared.query.Carried.the-variants.{Data}
-use Rattle.frame.specs.declared.query.QueryAnswer.{QueryAnswer}
-use Rattle.frame.specs.declared.query.QueryAnswer.the-variants.{Carries}
+use Rattle.query.specs.declared.query.Carried.the-variants.{Data}
+use Rattle.query.specs.declared.query.QueryAnswer.{QueryAnswer}
+use Rattle.query.specs.declared.query.QueryAnswer.the-variants.{Carries}
 use Rattle.frame.specs.Points.{floatsOf}
 
 -- "Its payload is the slice's first length bytes, whole when the slice has that many"

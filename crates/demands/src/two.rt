@@ -1,8 +1,8 @@
 // Demand 3 of two calls: each function makes the same call for two frames and promises the demand's sentences of what came back and of the lent slices.
 use frame::points::PointsAnswer;
 use frame::points::points;
-use frame::query::QueryAnswer;
-use frame::query::subcarrier;
+use query::query::QueryAnswer;
+use query::query::subcarrier;
 use settings::settings::RawSettings;
 use settings::symbols::Count;
 use settings::symbols::symbol_count;

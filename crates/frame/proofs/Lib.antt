@@ -1,4 +1,3 @@
 pub mod FrameLaws
 pub mod Refusals
-pub mod Tied
 pub mod PointsLaws

@@ -1,4 +1,3 @@
 pub mod Points
-pub mod Query
 pub mod Asked
 pub mod Statements

@@ -1,3 +1,2 @@
-// The calls that give points: those of a symbol, and what one subcarrier carries.
+// The points call: the points of any one symbol.
 pub mod points;
-pub mod query;

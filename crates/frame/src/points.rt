@@ -25,7 +25,7 @@ pub enum PointsAnswer {
 }
 
 // The half labels of symbol n of a frame.
-pub(crate) fn labels_of(halves: &mut [u8], payload: &[u8], s: Settings, n: usize)
+pub fn labels_of(halves: &mut [u8], payload: &[u8], s: Settings, n: usize)
     requires { ⌜ InFrame s (now payload) n × (864 ≤ length (now halves)) ⌝ }
     ensures { λ _. ⌜ LabelsHeld s (now (payload .entry)) n (now (halves .exit)) ⌝ }
 {

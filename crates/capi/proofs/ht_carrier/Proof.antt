@@ -5,7 +5,7 @@ use lib.ListN.{length}
 use denote.Ref.{now}
 use Rattle.settings.specs.declared.settings.RawSettings.{RawSettings}
 use Rattle.settings.specs.Settings.{checkOf}
-use Rattle.frame.specs.Query.{queryOf}
+use Rattle.query.specs.Query.{queryOf}
 use Rattle.capi.specs.Results.{rawOf, IsRefusedQuery}
 use Rattle.capi.proofs.Put.{carrier-refused, carrier-by}
 use borrow.Author.Needs.{needs}

@@ -1,7 +1,7 @@
 use mathlib.Core.Path.{_∙_, sym, ap}
 use lib.IntN.{pos}
 use denote.Ref.{now}
-use Rattle.frame.specs.declared.query.Carried.{Carried}
+use Rattle.query.specs.declared.query.Carried.{Carried}
 use Rattle.capi.specs.Results.{carriedNumber, carriedInto}
 use Rattle.capi.proofs.Put.{one-put, two-put}
 use borrow.Author.Needs.{needs}

@@ -3,7 +3,7 @@ use mathlib.Core.Path.{_∙_, ap}
 use mir.Facts.{toZ-ofZ}
 use borrow.Author.Needs.{needs}
 use Rattle.settings.specs.Settings.{checkOf}
-use Rattle.frame.specs.Query.{queryOf}
+use Rattle.query.specs.Query.{queryOf}
 use Rattle.demands.specs.Demand3.{SameQuery, LocalQuery}
 use Rattle.demands.proofs.Demand3.{of-queries, same-query, local-query}
 use Rattle.demands.proofs.two.two_queries.Statement.{statement}

@@ -6,10 +6,10 @@ use borrow.Author.Needs.{needs}
 use Rattle.settings.specs.Settings.{checkOf, IsRefused}
 use Rattle.settings.specs.declared.settings.Checked.the-variants.{Accepted}
 use Rattle.settings.proofs.SettingsLaws.{right}
-use Rattle.frame.specs.Query.{notInFrame}
-use Rattle.frame.proofs.FrameLaws.{query-refused, query-by, query-carries, in-frame}
-use Rattle.frame.proofs.query.subcarrier.Statement.{statement}
-use Rattle.frame.proofs.query.subcarrier.Tie as tie
+use Rattle.query.specs.Query.{notInFrame}
+use Rattle.query.proofs.QueryLaws.{query-refused, query-by, query-carries, in-frame}
+use Rattle.query.proofs.query.subcarrier.Statement.{statement}
+use Rattle.query.proofs.query.subcarrier.Tie as tie
 
 -- the entry, and the settings that were accepted
 abbrev start : tie.After-checked → tie.Start

@@ -3,9 +3,10 @@ use mir.Facts.{toZ-ofZ}
 use denote.Ref.{now}
 use borrow.Author.Needs.{needs}
 use Rattle.subcarriers.specs.Subcarriers.{useOf}
-use Rattle.frame.proofs.FrameLaws.{symbol-near, inside-width, carried-silent, carried-pilot, carried-data, pilot-in, data-in}
-use Rattle.frame.proofs.query.carried_at.Statement.{statement}
-use Rattle.frame.proofs.query.carried_at.Tie as tie
+use Rattle.frame.proofs.FrameLaws.{symbol-near}
+use Rattle.query.proofs.QueryLaws.{inside-width, carried-silent, carried-pilot, carried-data, pilot-in, data-in}
+use Rattle.query.proofs.query.carried_at.Statement.{statement}
+use Rattle.query.proofs.query.carried_at.Tie as tie
 
 -- the entry, and the use that was found
 abbrev start : tie.After-use-of → tie.Start

@@ -1,7 +1,7 @@
 use borrow.Author.Needs.{needs}
-use Rattle.frame.proofs.FrameLaws.{pilot-asked, pilot-is}
-use Rattle.frame.proofs.query.pilot_at.Statement.{statement}
-use Rattle.frame.proofs.query.pilot_at.Tie as tie
+use Rattle.query.proofs.QueryLaws.{pilot-asked, pilot-is}
+use Rattle.query.proofs.query.pilot_at.Statement.{statement}
+use Rattle.query.proofs.query.pilot_at.Tie as tie
 
 returns : tie.Need-returns
 returns c =

@@ -1,6 +1,6 @@
 // What one subcarrier of one stream carries in a symbol (document 01, the one-subcarrier question).
-use crate::points::labels_of;
 use chain::plan::axis_bits;
+use frame::points::labels_of;
 use mapper::point::Point;
 use mapper::point::data_point;
 use mapper::point::level_table;
@@ -24,9 +24,9 @@ ghost use Rattle.mapper.specs.Levels.{whole, carrierLevels, pointOf};
 ghost use Rattle.subcarriers.specs.Subcarriers.{pilotsOf, Inside};
 ghost use Rattle.pilots.specs.Pilots.{pilotSign};
 ghost use Rattle.settings.specs.Settings.{checkOf, planFor, Right};
 ghost use Rattle.frame.specs.Points.{labelsOf};
-ghost use Rattle.frame.specs.Query.{carriedOf, notInFrame, queryOf};
 ghost use Rattle.frame.specs.Asked.{InFrame};
+ghost use Rattle.query.specs.Query.{carriedOf, notInFrame, queryOf};
 
 // Nothing, a pilot's sign, or a data point before the upper half's turn.
 pub enum Carried {

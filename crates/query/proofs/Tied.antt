@@ -16,9 +16,9 @@ use Rattle.settings.specs.Settings.{planFor, Right}
 use Rattle.settings.proofs.SettingsLaws.{plan-fits}
 use Rattle.modulator.specs.Symbol.{usedLevels, carriedLevels, sentLevels, streamFloats}
 use Rattle.modulator.proofs.SymbolLaws.{symbol-at}
 use Rattle.frame.specs.Points.{labelsOf, pointFloat}
-use Rattle.frame.specs.Query.{carriedBy, carriedOf, carriedPoint}
-use Rattle.frame.specs.Statements.{PointsTied}
+use Rattle.query.specs.Query.{carriedBy, carriedOf, carriedPoint}
+use Rattle.query.specs.Statements.{PointsTied}
 
 -- what a use carries, as a point, is the point of what it puts on its subcarrier
 carried-point : (sign : ℕ → ℤ) (f : ℕ → Levels) (u : Use) → carriedPoint (carriedBy sign f u) ≡ pointOf (usedLevels sign f u)

@@ -2,9 +2,9 @@ use mathlib.Core.Path.{_∙_, ap}
 use mir.Facts.{toZ-ofZ}
 use Rattle.subcarriers.specs.Subcarriers.{outside}
 use borrow.Author.Needs.{needs}
-use Rattle.frame.proofs.FrameLaws.{not-there}
-use Rattle.frame.proofs.query.not_in_frame.Statement.{statement}
-use Rattle.frame.proofs.query.not_in_frame.Tie as tie
+use Rattle.query.proofs.QueryLaws.{not-there}
+use Rattle.query.proofs.query.not_in_frame.Statement.{statement}
+use Rattle.query.proofs.query.not_in_frame.Tie as tie
 
 returns : tie.Need-returns
 returns c =

@@ -17,11 +17,11 @@ use Rattle.settings.specs.declared.settings.Checked.{Checked}
 use Rattle.settings.specs.declared.settings.Checked.the-variants.{Accepted, Refused}
 use Rattle.settings.specs.Settings.{numberOf, planFor}
 use Rattle.settings.specs.Symbols.{symbolsOf}
-use Rattle.frame.specs.declared.query.Carried.{Carried}
-use Rattle.frame.specs.declared.query.Carried.the-variants.{Silent, Pilot, Data}
-use Rattle.frame.specs.declared.query.QueryAnswer.{QueryAnswer}
-use Rattle.frame.specs.declared.query.QueryAnswer.the-variants.{Carries, Refused as QueryRefused}
 use Rattle.frame.specs.Points.{labelsOf}
+use Rattle.query.specs.declared.query.Carried.{Carried}
+use Rattle.query.specs.declared.query.Carried.the-variants.{Silent, Pilot, Data}
+use Rattle.query.specs.declared.query.QueryAnswer.{QueryAnswer}
+use Rattle.query.specs.declared.query.QueryAnswer.the-variants.{Carries, Refused as QueryRefused}
 
 -- by the subcarrier's use: "silent, carries a pilot sign, or carries a data point (before step 8)"
 abbrev pub carriedBy : (sign : ℕ → ℤ) (carried : ℕ → Levels) → Use → Carried

@@ -1,9 +1,9 @@
 use native.Mathlib.Omega.{arith}
 use denote.Ref.{now}
 use borrow.Author.Needs.{needs}
-use Rattle.frame.proofs.FrameLaws.{axis-among, axis-above, from-few, point-asked, point-is}
-use Rattle.frame.proofs.query.point_at.Statement.{statement}
-use Rattle.frame.proofs.query.point_at.Tie as tie
+use Rattle.query.proofs.QueryLaws.{axis-among, axis-above, from-few, point-asked, point-is}
+use Rattle.query.proofs.query.point_at.Statement.{statement}
+use Rattle.query.proofs.query.point_at.Tie as tie
 
 -- the entry, and the place where the labels, the plan and the bits of its axis are at hand
 abbrev start : tie.After-axis-bits → tie.Start

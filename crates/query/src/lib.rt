@@ -1,0 +1,2 @@
+// The one-subcarrier question: what a subcarrier carries in a symbol.
+pub mod query;
