@@ -24,9 +24,9 @@ use Rattle.chain.proofs.ParserLaws.{parses}
 use Rattle.chain.proofs.InterleaverLaws.{shift-lt, source-shift, stream-below-four, plan-block, interleaves-plan}
 use Rattle.chain.proofs.Counts.{axis-known, bits-some}
 use Rattle.chain.proofs.LabelLaws.{written-from, halves-most}
-use Rattle.coding.specs.Sources.{codedSlot, labelSource}
+use Rattle.sources.specs.Sources.{codedSlot, labelSource}
+use Rattle.sources.proofs.SourceLaws.{small}
 use Rattle.coding.specs.Halves.{halfAt, labelIn, halfIn, HalfAsked, RunAsked, HalvesFilled}
-use Rattle.coding.proofs.SourceLaws.{small}
 
 -- bit t of half m is in the table, and what stands there among the coded bits
 pub bit-asked : {coded table : List ℕ} {s shift m : ℕ} → HalfAsked coded table s shift m

@@ -10,7 +10,7 @@ use Rattle.chain.specs.declared.plan.Plan.{Plan}
 use Rattle.chain.specs.Parser.{axisBits}
 use Rattle.chain.specs.Interleaver.{source}
 use Rattle.chain.specs.Labels.{written, halvesOf}
-use Rattle.coding.specs.Sources.{codedSlot, labelSource}
+use Rattle.sources.specs.Sources.{codedSlot, labelSource}
 
 -- half m through a table of places, `shift` places on: s bits, the first the highest
 abbrev pub halfAt : (coded table : List ℕ) (s shift m : ℕ) → ℕ

@@ -1,7 +1,7 @@
 use mathlib.Core.Path.{_≡_}
 use native.Mathlib.Omega.{arith}
 use borrow.Author.Needs.{needs}
-use Rattle.coding.proofs.SourceLaws.{three-left}
+use Rattle.sources.proofs.SourceLaws.{three-left}
 use Rattle.coding.proofs.HalfLaws.{bit-asked, one-bit, two-bits, three-bits}
 use Rattle.coding.proofs.labels.half.Statement.{statement}
 use Rattle.coding.proofs.labels.half.Tie as tie

@@ -4,9 +4,9 @@ use native.Mathlib.Omega.{arith}
 use lib.ListN.{length}
 use borrow.Author.Needs.{needs}
 use Rattle.laws.proofs.Filling.{fill-at}
-use Rattle.coding.specs.Sources.{labelSource}
+use Rattle.sources.specs.Sources.{labelSource}
+use Rattle.sources.proofs.SourceLaws.{small}
 use Rattle.coding.specs.Halves.{halfIn, HalvesFilled}
-use Rattle.coding.proofs.SourceLaws.{small}
 use Rattle.coding.proofs.HalfLaws.{halves-none, halves-more, halves-end}
 use Rattle.coding.proofs.labels.symbol_halves.Statement.{statement}
 use Rattle.coding.proofs.labels.symbol_halves.Tie as tie

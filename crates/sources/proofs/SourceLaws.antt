@@ -17,7 +17,7 @@ use Rattle.chain.specs.Parser.{axisBits}
 use Rattle.chain.specs.Interleaver.{columns, rows, rotation, blockOf, shiftOf, source, unrotated, unalternated, byRows, sourceForm}
 use Rattle.chain.proofs.Counts.{width-most, bits-most, streams-most, encoders-most, axis-some, axis-most}
 use Rattle.chain.proofs.InterleaverLaws.{source-is, interleaves, plan-block}
-use Rattle.coding.specs.Sources.{codedSlot, labelSource}
+use Rattle.sources.specs.Sources.{codedSlot, labelSource}
 
 -- bit r at width w, B bits a carrier: f is the closed inverse of stream 0
 abbrev formClaim : (w b : ℕ) (f : ℕ → ℕ) → Claim

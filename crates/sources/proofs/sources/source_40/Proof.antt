@@ -1,9 +1,9 @@
 use native.Mathlib.Omega.{arith}
 use borrow.Author.Needs.{needs}
 use Rattle.chain.proofs.Counts.{bits-other}
-use Rattle.coding.proofs.SourceLaws.{source-40-1, source-40-2, source-40-4, source-40-6, block-most}
-use Rattle.coding.proofs.sources.source_40.Statement.{statement}
-use Rattle.coding.proofs.sources.source_40.Tie as tie
+use Rattle.sources.proofs.SourceLaws.{source-40-1, source-40-2, source-40-4, source-40-6, block-most}
+use Rattle.sources.proofs.sources.source_40.Statement.{statement}
+use Rattle.sources.proofs.sources.source_40.Tie as tie
 
 returns : tie.Need-returns
 returns c = source-40-1 _ _ (c .if1 .taken) (c .before .pre .inside)

@@ -5,9 +5,9 @@ use lib.ListN.{getD}
 use borrow.Author.Needs.{needs}
 use Rattle.laws.specs.Filled.{Filled}
 use Rattle.laws.proofs.Filling.{fill-none, fill-more, fill-end}
-use Rattle.coding.specs.Sources.{codedSlot}
-use Rattle.coding.proofs.sources.parse.Statement.{statement}
-use Rattle.coding.proofs.sources.parse.Tie as tie
+use Rattle.sources.specs.Sources.{codedSlot}
+use Rattle.sources.proofs.sources.parse.Statement.{statement}
+use Rattle.sources.proofs.sources.parse.Tie as tie
 
 abbrev Inv-loop : tie.InvT-loop
 Inv-loop table₀ s streams encoders count r₀ table r = (r ≤ count) × Filled 0 0 (λ k. codedSlot s streams encoders 0 (getD table₀ k 0)) r table₀ table

@@ -1,6 +1,6 @@
 use Rattle.chain.proofs.Counts.{width-other}
-use Rattle.coding.proofs.sources.source_of.Statement.{statement}
-use Rattle.coding.proofs.sources.source_of.Tie as tie
+use Rattle.sources.proofs.sources.source_of.Statement.{statement}
+use Rattle.sources.proofs.sources.source_of.Tie as tie
 
 returns : tie.Need-returns
 returns c = rw (c .before .if1 .taken) (c .source-40 .ensures)

@@ -5,9 +5,9 @@ use native.Mathlib.Omega.{arith}
 use borrow.Author.Needs.{needs}
 use Rattle.chain.specs.Parser.{encoderOf, indexOf}
 use Rattle.chain.proofs.Counts.{encoders-not-one}
-use Rattle.coding.proofs.SourceLaws.{three-left, streams-times}
-use Rattle.coding.proofs.sources.parsed.Statement.{statement}
-use Rattle.coding.proofs.sources.parsed.Tie as tie
+use Rattle.sources.proofs.SourceLaws.{three-left, streams-times}
+use Rattle.sources.proofs.sources.parsed.Statement.{statement}
+use Rattle.sources.proofs.sources.parsed.Tie as tie
 
 -- one encoder, one bit an axis
 returns : tie.Need-returns

@@ -6,7 +6,7 @@ ghost use mathlib.Core.Path.{_≡_};
 ghost use lib.ListN.{getD};
 ghost use Rattle.laws.specs.Filled.{Filled};
 ghost use Rattle.chain.specs.Interleaver.{source};
-ghost use Rattle.coding.specs.Sources.{codedSlot, labelSource, SourceAsked, SourcesAsked, ParsedAsked, ParseAsked, TableAsked};
+ghost use Rattle.sources.specs.Sources.{codedSlot, labelSource, SourceAsked, SourcesAsked, ParsedAsked, ParseAsked, TableAsked};
 
 // The bit of stream 0 that goes to label place r, at 20 MHz and at 40.
 fn source_20(bits: u16, r: u16) -> u16
@@ -97,7 +97,7 @@ fn parse(table: &mut [u16], s: u16, streams: u16, encoders: u16, count: usize)
     }
 }
 
-pub(crate) fn label_sources(table: &mut [u16], plan: Plan)
+pub fn label_sources(table: &mut [u16], plan: Plan)
     requires { ⌜ TableAsked (now table) plan ⌝ }
     ensures { λ _. ⌜ Filled 0 0 (λ r. labelSource plan r) (plan .block) (now (table .entry)) (now (table .exit)) ⌝ }
 {

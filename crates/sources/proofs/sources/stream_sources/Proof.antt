@@ -4,8 +4,8 @@ use borrow.Author.Needs.{needs}
 use Rattle.laws.specs.Filled.{Filled}
 use Rattle.laws.proofs.Filling.{fill-none, fill-more, fill-end}
 use Rattle.chain.specs.Interleaver.{source}
-use Rattle.coding.proofs.sources.stream_sources.Statement.{statement}
-use Rattle.coding.proofs.sources.stream_sources.Tie as tie
+use Rattle.sources.proofs.sources.stream_sources.Statement.{statement}
+use Rattle.sources.proofs.sources.stream_sources.Tie as tie
 
 abbrev Inv-loop : tie.InvT-loop
 Inv-loop table₀ width bits count r₀ table r = (r ≤ count) × Filled 0 0 (λ k. source width bits 0 k) r table₀ table

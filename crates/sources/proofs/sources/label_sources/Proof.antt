@@ -9,9 +9,9 @@ use Rattle.laws.proofs.Filling.{fill-at}
 use Rattle.chain.specs.Interleaver.{source}
 use Rattle.chain.proofs.InterleaverLaws.{plan-block}
 use Rattle.chain.proofs.Counts.{axis-known}
-use Rattle.coding.proofs.SourceLaws.{small, source-small, parsed-table}
-use Rattle.coding.proofs.sources.label_sources.Statement.{statement}
-use Rattle.coding.proofs.sources.label_sources.Tie as tie
+use Rattle.sources.proofs.SourceLaws.{small, source-small, parsed-table}
+use Rattle.sources.proofs.sources.label_sources.Statement.{statement}
+use Rattle.sources.proofs.sources.label_sources.Tie as tie
 
 -- the entry, and the place after the first call
 abbrev start : tie.After-struct-known2 → tie.Start
