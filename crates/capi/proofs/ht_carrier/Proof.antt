@@ -6,8 +6,8 @@ use denote.Ref.{now}
 use Rattle.settings.specs.declared.settings.RawSettings.{RawSettings}
 use Rattle.settings.specs.Settings.{checkOf}
 use Rattle.query.specs.Query.{queryOf}
-use Rattle.capi.specs.Results.{rawOf, IsRefusedQuery}
-use Rattle.capi.proofs.Put.{carrier-refused, carrier-by}
+use Rattle.conversions.specs.Results.{rawOf, IsRefusedQuery}
+use Rattle.conversions.proofs.Put.{carrier-refused, carrier-by}
 use borrow.Author.Needs.{needs}
 use Rattle.capi.proofs.ht_carrier.Statement.{statement}
 use Rattle.capi.proofs.ht_carrier.Tie as tie

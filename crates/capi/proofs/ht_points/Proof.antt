@@ -6,8 +6,8 @@ use Rattle.settings.specs.declared.settings.RawSettings.{RawSettings}
 use Rattle.settings.specs.Settings.{checkOf}
 use Rattle.frame.specs.Points.{pointsOf, pointsInto}
 use Rattle.frame.proofs.PointsLaws.{written-few}
-use Rattle.capi.specs.Results.{pointsResult}
-use Rattle.capi.proofs.Minus.{pos-fits, pos-is}
+use Rattle.conversions.specs.Results.{pointsResult}
+use Rattle.conversions.proofs.Minus.{pos-fits, pos-is}
 use borrow.Author.Needs.{needs}
 use Rattle.capi.proofs.ht_points.Statement.{statement}
 use Rattle.capi.proofs.ht_points.Tie as tie

@@ -3,8 +3,8 @@ use mathlib.Core.Path.{sym, ap, _∙_}
 use native.Mathlib.Omega.{arith}
 use lib.IntN.{pos}
 use Rattle.signal.proofs.ReadFields.{read-fields-fit}
-use Rattle.capi.specs.Results.{readResult}
-use Rattle.capi.proofs.Minus.{pos-is}
+use Rattle.conversions.specs.Results.{readResult}
+use Rattle.conversions.proofs.Minus.{pos-is}
 use borrow.Author.Needs.{needs}
 use Rattle.capi.proofs.ht_sig_read.Statement.{statement}
 use Rattle.capi.proofs.ht_sig_read.Tie as tie

@@ -4,7 +4,7 @@ use lib.ListN.{length}
 use Rattle.settings.specs.declared.settings.RawSettings.{RawSettings}
 use Rattle.settings.specs.Settings.{checkOf}
 use Rattle.signal.specs.HtSig.{writtenOf, writtenInto}
-use Rattle.capi.specs.Results.{writtenResult}
+use Rattle.conversions.specs.Results.{writtenResult}
 use borrow.Author.Needs.{needs}
 use Rattle.capi.proofs.ht_sig_write.Statement.{statement}
 use Rattle.capi.proofs.ht_sig_write.Tie as tie

@@ -4,8 +4,8 @@ use Rattle.settings.specs.declared.settings.RawSettings.{RawSettings}
 use Rattle.settings.specs.Settings.{checkOf}
 use Rattle.settings.specs.Symbols.{countOf}
 use Rattle.settings.proofs.SettingsLaws.{count-few}
-use Rattle.capi.specs.Results.{countResult}
-use Rattle.capi.proofs.Minus.{pos-fits, pos-is}
+use Rattle.conversions.specs.Results.{countResult}
+use Rattle.conversions.proofs.Minus.{pos-fits, pos-is}
 use borrow.Author.Needs.{needs}
 use Rattle.capi.proofs.ht_symbol_count.Statement.{statement}
 use Rattle.capi.proofs.ht_symbol_count.Tie as tie

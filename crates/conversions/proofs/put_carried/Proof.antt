@@ -2,11 +2,11 @@ use mathlib.Core.Path.{_∙_, sym, ap}
 use lib.IntN.{pos}
 use denote.Ref.{now}
 use Rattle.query.specs.declared.query.Carried.{Carried}
-use Rattle.capi.specs.Results.{carriedNumber, carriedInto}
-use Rattle.capi.proofs.Put.{one-put, two-put}
+use Rattle.conversions.specs.Results.{carriedNumber, carriedInto}
+use Rattle.conversions.proofs.Put.{one-put, two-put}
 use borrow.Author.Needs.{needs}
-use Rattle.capi.proofs.put_carried.Statement.{statement}
-use Rattle.capi.proofs.put_carried.Tie as tie
+use Rattle.conversions.proofs.put_carried.Statement.{statement}
+use Rattle.conversions.proofs.put_carried.Tie as tie
 
 returns : tie.Need-returns
 returns c =

@@ -1,8 +1,8 @@
 use mathlib.Core.Path.{subst}
-use Rattle.capi.specs.Results.{IsRefusedQuery}
+use Rattle.conversions.specs.Results.{IsRefusedQuery}
 use borrow.Author.Needs.{needs}
-use Rattle.capi.proofs.query_refusal.Statement.{statement}
-use Rattle.capi.proofs.query_refusal.Tie as tie
+use Rattle.conversions.proofs.query_refusal.Statement.{statement}
+use Rattle.conversions.proofs.query_refusal.Tie as tie
 
 enum-known-answer : tie.Need-enum-known-answer
 enum-known-answer c = search needs

@@ -1,10 +1,10 @@
 use mathlib.Core.Path.{_∙_, ap, subst, sym}
 use Prim.Native.Nat.{ℕ, _<_}
 use Rattle.laws.specs.Integers.{minus}
-use Rattle.capi.proofs.Minus.{number-small}
+use Rattle.conversions.proofs.Minus.{number-small}
 use borrow.Author.Needs.{needs}
-use Rattle.capi.proofs.refused.Statement.{statement}
-use Rattle.capi.proofs.refused.Tie as tie
+use Rattle.conversions.proofs.refused.Statement.{statement}
+use Rattle.conversions.proofs.refused.Tie as tie
 
 number-requires : tie.Need-number-requires
 number-requires c κs = search needs

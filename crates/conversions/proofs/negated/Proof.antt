@@ -1,7 +1,7 @@
-use Rattle.capi.proofs.Minus.{minus-fits, minus-back}
+use Rattle.conversions.proofs.Minus.{minus-fits, minus-back}
 use borrow.Author.Needs.{needs}
-use Rattle.capi.proofs.negated.Statement.{statement}
-use Rattle.capi.proofs.negated.Tie as tie
+use Rattle.conversions.proofs.negated.Statement.{statement}
+use Rattle.conversions.proofs.negated.Tie as tie
 
 returns : tie.Need-returns
 returns c = minus-back (c .args .n) (c .pre)

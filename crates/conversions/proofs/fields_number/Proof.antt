@@ -1,8 +1,8 @@
 use native.Mathlib.Omega.{arith}
-use Rattle.capi.specs.Results.{fieldsNumber}
+use Rattle.conversions.specs.Results.{fieldsNumber}
 use borrow.Author.Needs.{needs}
-use Rattle.capi.proofs.fields_number.Statement.{statement}
-use Rattle.capi.proofs.fields_number.Tie as tie
+use Rattle.conversions.proofs.fields_number.Statement.{statement}
+use Rattle.conversions.proofs.fields_number.Tie as tie
 
 one-requires : tie.Need-one-requires
 one-requires c κs = search needs

@@ -13,7 +13,7 @@ use Rattle.settings.specs.declared.settings.Refusal.the-variants.{Room}
 use Rattle.query.specs.declared.query.Carried.{Carried}
 use Rattle.query.specs.declared.query.QueryAnswer.{QueryAnswer}
 use Rattle.query.specs.declared.query.QueryAnswer.the-variants.{Carries, Refused as QueryRefused}
-use Rattle.capi.specs.Results.{refusedResult, carriedNumber, carriedInto, carrierResult, carrierInto}
+use Rattle.conversions.specs.Results.{refusedResult, carriedNumber, carriedInto, carrierResult, carrierInto}
 
 pub one-put : (l : List Float) (x : Float) → 2 ≤ length l → set l 0 x ≡ x ∷ drop 1 l
 one-put [] x h = absurd (not-suc-le-zero h)
