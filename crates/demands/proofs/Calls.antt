@@ -1,5 +1,5 @@
 -- The calls of accepted frames: when they are answered, and with what. Assumes nothing.
-use mathlib.Core.Path.{_≡_, refl, sym, ap}
+use mathlib.Core.Path.{_≡_, _∙_, refl, sym, ap}
 use mathlib.Core.Bool.{Bool, true, false, cond}
 use mathlib.Core.List.{List}
 use Prim.Native.Nat.{ℕ, _<_, _≤_}
@@ -29,6 +29,8 @@ use Rattle.mapper.proofs.CarrierLaws.{carrier-ext}
 use Rattle.frame.specs.declared.points.PointsAnswer.the-variants.{Written, Refused as PointsRefused}
 use Rattle.query.specs.declared.query.Carried.the-variants.{Data as DataPoint}
 use Rattle.query.specs.declared.query.QueryAnswer.the-variants.{Carries}
+use Rattle.frame.proofs.PointsLaws.{points-by}
+use Rattle.query.proofs.QueryLaws.{query-by}
 use Rattle.frame.specs.Points.{labelsOf, pointFloat, floatsOf, pointsOf, pointsInto, pointsNumber}
 use Rattle.query.specs.Query.{carriedBy, carriedOf, notInFrame, queryOf}
 
@@ -56,10 +58,6 @@ given s bytes n room = go (ltb bytes (s .length)) (leb (symbolsOf s) n) (ltb roo
     go false false false eu ev ew e =
         record { payload-whole = ltb-false bytes (s .length) eu; in-frame = leb-false (symbolsOf s) n ev; room-enough = ltb-false room (floatsOf s) ew }
 
-pub written : (s : Settings) (bytes n room : ℕ) → Given s bytes n room → pointsOf (Accepted s) bytes n room ≡ Written (floatsOf s)
-written s bytes n room g =
-    simp (le-ltb bytes (s .length) (g .payload-whole), lt-leb (symbolsOf s) n (g .in-frame), le-ltb room (floatsOf s) (g .room-enough))
-
 -- whole payloads of any length and equal room give the same answer
 pub same-answer : (s : Settings) (bytes bytes′ n room room′ : ℕ) → s .length ≤ bytes → s .length ≤ bytes′ → room ≡ room′
     → pointsOf (Accepted s) bytes n room ≡ pointsOf (Accepted s) bytes′ n room′
@@ -69,7 +67,11 @@ same-answer s bytes bytes′ n room room′ h h′ e =
 -- a float of the slice after an accepted call
 pub level-at : (s : Settings) (p : List ℕ) (n : ℕ) (out : List Float) → Given s (length p) n (length out)
     → (g : ℕ) → g < floatsOf s → getD (pointsInto (Accepted s) p n out) g nan ≡ pointFloat s p n g
-level-at s p n out ok g h = rw (written s (length p) n (length out) ok) (written-at nan (pointFloat s p n) (floatsOf s) out g h)
+level-at s p n out ok g h =
+    ap (λ (l : List Float). getD l g nan)
+    (sym (points-by s p n out (Accepted s) false false false refl (le-ltb (length p) (s .length) (ok .payload-whole)) (lt-leb (symbolsOf s) n (ok .in-frame))
+    (le-ltb (length out) (floatsOf s) (ok .room-enough)) .1))
+    ∙ written-at nan (pointFloat s p n) (floatsOf s) out g h
 
 -- ---- the question
 
@@ -85,7 +87,8 @@ in-frame-is s bytes n i z k =
     simp (lt-leb (symbolsOf s) n (k .in-frame), lt-leb (planFor s .streams) i (k .stream), k .inside)
 
 pub answered : (s : Settings) (p : List ℕ) (n i : ℕ) (z : ℤ) → Asked s (length p) n i z → queryOf (Accepted s) p n i z ≡ Carries (carriedOf s p n i z)
-answered s p n i z k = simp (le-ltb (length p) (s .length) (k .payload-whole), in-frame-is s (length p) n i z k)
+answered s p n i z k =
+    sym (query-by s p n i z (Accepted s) false false refl (le-ltb (length p) (s .length) (k .payload-whole)) (sym (in-frame-is s (length p) n i z k)))
 
 -- what a data carrier's subcarrier carries
 pub carried-data : (s : Settings) (p : List ℕ) (n i c : ℕ) (z : ℤ) → useOf (planFor s .width) z ≡ Data c

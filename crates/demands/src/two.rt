@@ -1,4 +1,5 @@
-// Demand 3 of two calls: each function makes the same call for two frames and promises the demand's sentences of what came back and of the lent slices.
+// Demand 3 of two calls: each function makes the same call for two frames. It promises that what came back is what the calls give (so that nothing
+// is met by refusing), and the demand's sentences of the answers and of the lent slices.
 use frame::points::PointsAnswer;
 use frame::points::points;
 use query::query::QueryAnswer;
@@ -8,6 +9,13 @@ use settings::symbols::Count;
 use settings::symbols::symbol_count;
 use signal::ht_sig::Written;
 use signal::ht_sig::write;
+ghost use mathlib.Core.Path.{_≡_};
+ghost use lib.ListN.{length};
+ghost use Rattle.settings.specs.Settings.{checkOf};
+ghost use Rattle.settings.specs.Symbols.{countOf};
+ghost use Rattle.signal.specs.HtSig.{writtenOf, writtenInto};
+ghost use Rattle.frame.specs.Points.{pointsOf, pointsInto};
+ghost use Rattle.query.specs.Query.{queryOf};
 ghost use Rattle.demands.specs.Demand3.{SameCount, SameSignal, SamePoints, SameQuery, LocalPoints, LocalQuery, DifferingPoints, SeedPoints};
 
 pub struct TwoCounts {
@@ -31,7 +39,8 @@ pub struct TwoAnswers {
 }
 
 pub fn two_counts(raw: RawSettings, other_raw: RawSettings) -> TwoCounts
-    ensures { λ r. ⌜ SameCount raw «other_raw» (r .one) (r .other) ⌝ }
+    ensures made { λ r. ⌜ (r .one ≡ countOf (checkOf raw)) × (r .other ≡ countOf (checkOf «other_raw»)) ⌝ }
+    ensures alike { λ r. ⌜ SameCount raw «other_raw» (r .one) (r .other) ⌝ }
 {
     let one = symbol_count(raw);
     let other = symbol_count(other_raw);
@@ -44,7 +53,9 @@ pub fn two_signals(
     out: &mut [u8],
     other_out: &mut [u8],
 ) -> TwoWritten
-    ensures { λ r. ⌜ SameSignal raw «other_raw» (now (out .entry)) (now («other_out» .entry)) (r .one) (r .other) (now (out .exit)) (now («other_out» .exit)) ⌝ }
+    ensures made { λ r. ⌜ (r .one ≡ writtenOf (checkOf raw) (length (now (out .entry)))) × (r .other ≡ writtenOf (checkOf «other_raw») (length (now («other_out» .entry)))) ⌝ }
+    ensures left { λ _. ⌜ (now (out .exit) ≡ writtenInto (checkOf raw) (now (out .entry))) × (now («other_out» .exit) ≡ writtenInto (checkOf «other_raw») (now («other_out» .entry))) ⌝ }
+    ensures alike { λ r. ⌜ SameSignal raw «other_raw» (now (out .entry)) (now («other_out» .entry)) (r .one) (r .other) (now (out .exit)) (now («other_out» .exit)) ⌝ }
 {
     let one = write(raw, out);
     let other = write(other_raw, other_out);
@@ -60,6 +71,8 @@ pub fn two_points(
     out: &mut [f32],
     other_out: &mut [f32],
 ) -> TwoPoints
+    ensures made { λ r. ⌜ (r .one ≡ pointsOf (checkOf raw) (length (now (payload .entry))) symbol (length (now (out .entry)))) × (r .other ≡ pointsOf (checkOf «other_raw») (length (now («other_payload» .entry))) symbol (length (now («other_out» .entry)))) ⌝ }
+    ensures left { λ _. ⌜ (now (out .exit) ≡ pointsInto (checkOf raw) (now (payload .entry)) symbol (now (out .entry))) × (now («other_out» .exit) ≡ pointsInto (checkOf «other_raw») (now («other_payload» .entry)) symbol (now («other_out» .entry))) ⌝ }
     ensures alike { λ r. ⌜ SamePoints raw «other_raw» (now (payload .entry)) (now («other_payload» .entry)) symbol (now (out .entry)) (now («other_out» .entry)) (r .one) (r .other) (now (out .exit)) (now («other_out» .exit)) ⌝ }
     ensures local { λ r. ⌜ LocalPoints raw «other_raw» (now (payload .entry)) (now («other_payload» .entry)) symbol (now (out .entry)) (now («other_out» .entry)) (r .one) (r .other) (now (out .exit)) (now («other_out» .exit)) ⌝ }
     ensures differing { λ r. ⌜ DifferingPoints raw «other_raw» (now (payload .entry)) (now («other_payload» .entry)) symbol (now (out .entry)) (now («other_out» .entry)) (r .one) (r .other) (now (out .exit)) (now («other_out» .exit)) ⌝ }
@@ -79,6 +92,7 @@ pub fn two_queries(
     stream: u64,
     at: i32,
 ) -> TwoAnswers
+    ensures made { λ r. ⌜ (r .one ≡ queryOf (checkOf raw) (now (payload .entry)) symbol stream at) × (r .other ≡ queryOf (checkOf «other_raw») (now («other_payload» .entry)) symbol stream at) ⌝ }
     ensures alike { λ r. ⌜ SameQuery raw «other_raw» (now (payload .entry)) (now («other_payload» .entry)) symbol (r .one) (r .other) ⌝ }
     ensures local { λ r. ⌜ LocalQuery raw «other_raw» (now (payload .entry)) (now («other_payload» .entry)) symbol (r .one) (r .other) ⌝ }
 {

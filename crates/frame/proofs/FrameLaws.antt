@@ -1,10 +1,8 @@
 -- What accepted settings and a frame's half labels give the calls' inner functions. Assumes nothing.
 use mathlib.Core.Path.{_≡_, _∙_, sym, ap, subst}
-use mathlib.Core.Bool.{Bool, true, false, cond}
 use mathlib.Core.List.{List}
 use Prim.Native.Nat.{ℕ, _+_, _*_, _^_, _<_, _≤_}
 use native.Mathlib.Omega.{arith}
-use lib.Dec.{eqb}
 use lib.ListN.{length, getD}
 use Rattle.laws.specs.Claim.{Claim, _under_, each, Holds, sound}
 use Rattle.chain.specs.declared.plan.Plan.{Plan}
@@ -26,14 +24,6 @@ pub symbol-near : (s : Settings) (n : ℕ) → Right s → n < symbolsOf s → n
 symbol-near s n r h = omega (arith, h, symbols-few s r)
 
 -- ---- sizes
-
--- a stream has at most 114 places
-pub places-few : (w : ℕ) → placesOf w ≤ 114
-places-few w = go (eqb w 40)
-  where
-    go : (b : Bool) → cond b 114 56 ≤ 114
-    go true = omega arith
-    go false = omega arith
 
 abbrev floatsClaim : Claim
 floatsClaim = each widths λ w. each streamCounts λ n. n * (2 * placesOf w) under 913

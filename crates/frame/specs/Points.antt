@@ -18,7 +18,7 @@ use Rattle.modulator.specs.Symbol.{streamFloats, symbolFloat}
 use Rattle.frame.specs.declared.points.PointsAnswer.{PointsAnswer}
 use Rattle.frame.specs.declared.points.PointsAnswer.the-variants.{Written, Refused as PointsRefused}
 
--- the encoders' input bits of a frame (steps 1 and 2), and the half labels of its symbol n (steps 2 to 5)
+-- the encoders' input bits of a frame (step 1), and the half labels of its symbol n (steps 2 to 5)
 abbrev pub inputOf : (s : Settings) (payload : List ℕ) (d : ℕ) → ℕ
 inputOf s payload d = coderInput (payloadBit payload) (s .length) (planFor s .encoders) (s .seed) d
 

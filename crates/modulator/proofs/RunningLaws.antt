@@ -12,7 +12,6 @@ use lib.IntN.{ℤ, pos, natAbs, _*ℤ_}
 use lib.Ieee.{Float, nan}
 use Rattle.laws.specs.Filled.{Filled}
 use Rattle.laws.proofs.Filling.{fill-none, fill-as, fill-end, fill-from, fill-join}
-use Rattle.laws.proofs.Radix.{rem-of, quot-of}
 use Rattle.chain.specs.declared.plan.Plan.{Plan}
 use Rattle.chain.specs.Plan.{Fits}
 use Rattle.chain.specs.Parser.{axisBits}
@@ -28,9 +27,11 @@ use Rattle.subcarriers.specs.declared.layout.Use.{Use}
 use Rattle.subcarriers.specs.declared.layout.Use.the-variants.{Pilot, Data}
 use Rattle.subcarriers.specs.Subcarriers.{useOf, placesOf, subcarrierAt, pilotsOf, upper}
 use Rattle.subcarriers.specs.Runs.{halfRuns, runOf, runEnd, RunRight, RunsRight}
+use Rattle.subcarriers.proofs.SubcarrierLaws.{places-few}
 use Rattle.subcarriers.proofs.RunLaws.{runs-right, runs-some}
 use Rattle.pilots.specs.Pilots.{signOf, patternOf, polarityBit, pilotSign, PilotAsked}
 use Rattle.pilots.proofs.PilotLaws.{pilot-is, pilot-one}
+use Rattle.modulator.proofs.SymbolLaws.{stream-float}
 use Rattle.modulator.specs.Symbol.{usedLevels, turnedIf, axisLevel, streamLevel, streamFloats, symbolFloat}
 use Rattle.modulator.specs.Asked.{halvesFrom, halvesIn, runLevel, RunAsked, PilotWhole, StreamAsked, SegmentFilled, StreamFilled, SymbolAsked}
 
@@ -90,11 +91,6 @@ run-more halves bits from to carrier k t p d₀ d d′ made filled put =
     (λ g h. ap₂ (λ (c j : ℕ). axisLevel (turnedIf t (carrierLevels bits (halvesFrom halves from) (carrier + c))) j) (sym (half-of k g h)) (sym (part-of k g h)))
     filled put
 
--- places, and carriers, of either width
-pub few-places : (b : Bool) → cond b 114 56 ≤ 114
-few-places true = omega arith
-few-places false = omega arith
-
 few-carriers : (b : Bool) → cond b 108 52 ≤ 108
 few-carriers true = omega arith
 few-carriers false = omega arith
@@ -115,7 +111,7 @@ module _ {out : List Float} {halves : List ℕ} {table : List Float} {p : Plan} 
   -- stands inside the stream
   pub run-in : RunIn run base (length out)
   run-in = record {
-    near = omega (arith, right .inside, few-places (eqb (p .width) 40));
+    near = omega (arith, right .inside, places-few (p .width));
     inside = omega (arith, right .inside, asked .room);
     pilot-inside = λ e. omega (arith, right .inside, asked .room, pilot-counts (run .place + run .count) (run .piloted) e);
   }
@@ -271,15 +267,6 @@ own-halves : (p : Plan) (halves : List ℕ) (count format n i g : ℕ)
 unfolding streamLevel
 own-halves p halves count format n i g = refl
 
--- and are the symbol's floats from the stream's first on
-symbol-at : (p : Plan) (h : ℕ → ℕ → ℕ) (format n i g : ℕ) → g < streamFloats (p .width)
-    → whole (streamLevel p h format n i g) ≡ symbolFloat p h format n (i * streamFloats (p .width) + g)
-unfolding symbolFloat
-symbol-at p h format n i g l =
-    ap₂ (λ (j k : ℕ). whole (streamLevel p h format n j k))
-    (sym (quot-of (streamFloats (p .width)) i g (i * streamFloats (p .width) + g) l refl))
-    (sym (rem-of (streamFloats (p .width)) i g (i * streamFloats (p .width) + g) l refl))
-
 -- a stream more of a symbol
 pub stream-more : (p : Plan) (halves : List ℕ) (polarity format n i floats count : ℕ) (d₀ d d′ : List Float)
     → floats ≡ streamFloats (p .width) → count ≡ halvesOf p → polarity ≡ polarityBit format n
@@ -294,7 +281,7 @@ stream-more p halves polarity format n i floats count d₀ d d′ sized counted 
     (fill-join nan 0 (symbolFloat p h format n) (i * size) size d₀ d d′ filled
     (fill-from nan (λ g. symbolFloat p h format n (i * size + g)) (sym (zero-add (i * size)))
     (fill-as nan (i * size) _ (λ g. symbolFloat p h format n (i * size + g)) size d d′
-    (λ g l. ap whole (own-halves p halves (halvesOf p) format n i g) ∙ symbol-at p h format n i g l) (own format e))))
+    (λ g l. ap whole (own-halves p halves (halvesOf p) format n i g) ∙ sym (stream-float p h format n i g l)) (own format e))))
 
 -- where stream i's floats and half labels stand
 pub record StreamIn (p : Plan) (i floats count : ℕ) : Type 0 where
@@ -306,7 +293,7 @@ pub record StreamIn (p : Plan) (i floats count : ℕ) : Type 0 where
 pub stream-in : (p : Plan) (i floats count : ℕ) → Fits p → i < p .streams → floats ≡ streamFloats (p .width) → count ≡ halvesOf p → StreamIn p i floats count
 stream-in p i floats count fits h sized counted = record {
   floats-end = below floats;
-  floats-most = mul-le-mul {n₂ = 4} {m₂ = 228} (streams-most (p .streams) (fits .streams)) (omega (arith, few-places (eqb (p .width) 40)));
+  floats-most = mul-le-mul {n₂ = 4} {m₂ = 228} (streams-most (p .streams) (fits .streams)) (omega (arith, places-few (p .width)));
   halves-end = below count;
   halves-few = rw counted (halves-most p fits);
 }

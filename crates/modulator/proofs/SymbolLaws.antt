@@ -1,10 +1,11 @@
 -- The points of a symbol: which half labels they come from, and that they tell half labels apart. Assumes nothing.
-use mathlib.Core.Path.{_≡_, _∙_, refl, sym, ap}
+use mathlib.Core.Path.{_≡_, _∙_, refl, sym, ap, ap₂}
 use mathlib.Core.Bool.{Bool, true, false, cond}
 use Prim.Native.Nat.{ℕ, zero, suc, _+_, _*_, _/_, _%_, _^_, _<_}
-use native.Mathlib.Nat.{mod-lt, div-lt-iff-lt-mul, mul-le-mul-right, suc-mul}
+use native.Mathlib.Nat.{mod-lt, div-lt-iff-lt-mul}
 use native.Mathlib.Omega.{arith}
 use borrow.Author.Tests.{eqb-true, eqb-false}
+use lib.Arith.{digits-lt}
 use lib.Dec.{eqb}
 use lib.IntN.{ℤ, pos}
 use lib.Ieee.{binary32, toBits}
@@ -108,10 +109,6 @@ used-ext width sign k k′ Silent right same = refl
 used-ext width sign k k′ (Pilot q) right same = refl
 used-ext width sign k k′ (Data c) right same = same c right
 
--- place r of block i of n blocks of q
-in-block : (n q i r : ℕ) → i < n → r < q → i * q + r < n * q
-in-block n q i r l s = omega (arith, rw suc-mul at (mul-le-mul-right q l))
-
 -- the float of an axis of a place is one of its stream
 axis-below : (f axis places : ℕ) → f < places → axis < 2 → 2 * f + axis < 2 * places
 axis-below f axis places l k = omega arith
@@ -125,6 +122,14 @@ axis-place f axis l = (omega arith, omega arith)
 floats-some : (b : Bool) → 0 < 2 * cond b 114 56
 floats-some true = omega arith
 floats-some false = omega arith
+
+-- float g of stream i in the symbol
+pub stream-float : (p : Plan) (h : ℕ → ℕ → ℕ) (format n i g : ℕ) → g < streamFloats (p .width)
+    → symbolFloat p h format n (i * streamFloats (p .width) + g) ≡ whole (streamLevel p h format n i g)
+unfolding symbolFloat
+stream-float p h format n i g l =
+    let floats = streamFloats (p .width) in
+    ap₂ (λ (j k : ℕ). whole (streamLevel p h format n j k)) (quot-of floats i g (i * floats + g) l refl) (rem-of floats i g (i * floats + g) l refl)
 
 module _ (p : Plan) (fits : Fits p) where
   -- each half label of the stream is one of a carrier
@@ -180,8 +185,8 @@ module _ (p : Plan) (fits : Fits p) where
       let r = 2 * f + axis in
       let below : r < floats = axis-below f axis (placesOf (p .width)) l k in
       let at = axis-place f axis k in
-      float-is h format n (i * floats + r)
-      ∙ rw (quot-of floats i r (i * floats + r) below refl, rem-of floats i r (i * floats + r) below refl, level-is h format n i r, at .0, at .1)
+      stream-float p h format n i r below
+      ∙ rw (level-is h format n i r, at .0, at .1)
 
   -- the levels of a stream come from its half labels
   stream-ext : (h h′ : ℕ → ℕ → ℕ) (format n i r : ℕ) → ((m : ℕ) → m < halvesOf p → h i m ≡ h′ i m) → r < streamFloats (p .width)
@@ -245,7 +250,7 @@ module _ (p : Plan) (fits : Fits p) where
         carrier-in = below;
         points-differ = λ e e′. told (point-told here there (carrier-small (p .bits) (h i) c) (carrier-small (p .bits) (h′ i) c) a e e′);
         float = i * streamFloats (p .width) + (2 * at .place + axis);
-        float-in = in-block (p .streams) (streamFloats (p .width)) i (2 * at .place + axis) stream
+        float-in = digits-lt stream
             (axis-below (at .place) axis (placesOf (p .width)) (at .inside) one-of-two);
         floats-differ = λ e. told (sent-told turned a here there (carrier-small (p .bits) (h i) c) (carrier-small (p .bits) (h′ i) c)
             (sym (data-bits h format n i c axis at one-of-two) ∙ e ∙ data-bits h′ format n i c axis at one-of-two));

@@ -1,5 +1,5 @@
 -- What accepted settings and a frame's half labels give the question's inner functions, and its answer by the tests. Assumes nothing.
-use mathlib.Core.Path.{_≡_, _∙_, refl, sym, ap, ap₂, subst}
+use mathlib.Core.Path.{_≡_, _∙_, sym, ap, ap₂, subst}
 use mathlib.Core.Bool.{Bool, false, cond, _||_}
 use mathlib.Core.List.{List, [], _∷_}
 use Prim.Native.Nat.{ℕ, _+_, _*_, _/_, _%_, _<_, _≤_}
@@ -13,7 +13,7 @@ use lib.Ieee.{Float}
 use Rattle.laws.specs.Test.{among}
 use Rattle.laws.proofs.Reflect.{or-false}
 use Rattle.chain.specs.declared.plan.Plan.{Plan}
-use Rattle.chain.specs.Plan.{planOf, Fits}
+use Rattle.chain.specs.Plan.{Fits}
 use Rattle.chain.specs.Parser.{axisBits}
 use Rattle.chain.specs.Labels.{halvesOf}
 use Rattle.chain.proofs.Counts.{axis-known, axis-some}
@@ -34,7 +34,7 @@ use Rattle.settings.specs.declared.settings.Checked.{Checked}
 use Rattle.settings.specs.declared.settings.Checked.the-variants.{Accepted, Refused}
 use Rattle.settings.specs.Settings.{planFor, Right}
 use Rattle.settings.specs.Symbols.{symbolsOf}
-use Rattle.settings.proofs.SettingsLaws.{plan-fits}
+use Rattle.settings.proofs.SettingsLaws.{plan-fits, planned-width}
 use Rattle.frame.specs.Points.{labelsOf}
 use Rattle.frame.specs.Asked.{InFrame, LabelsHeld}
 use Rattle.frame.proofs.FrameLaws.{held-small}
@@ -42,11 +42,6 @@ use Rattle.query.specs.declared.query.Carried.{Carried}
 use Rattle.query.specs.declared.query.Carried.the-variants.{Silent, Pilot, Data}
 use Rattle.query.specs.declared.query.QueryAnswer.the-variants.{Carries, Refused as QueryRefused}
 use Rattle.query.specs.Query.{carriedBy, carriedOf, notInFrame, queryOf}
-
--- a plan has its settings' width
-pub plan-width : (s : Settings) → planFor s .width ≡ s .width
-unfolding planFor planOf
-plan-width s = refl
 
 inside : (i streams count upto size : ℕ) → i < streams → upto ≤ count → streams * count ≤ size → i * count + upto ≤ size
 inside i streams count upto size h k room = omega (arith, rw suc-mul at (mul-le-mul-right count h), k, room)
@@ -126,7 +121,7 @@ not-there s p symbols symbol stream z b e f g =
 
 -- a subcarrier of the plan's channel is one of the settings'
 pub inside-width : (s : Settings) (z : ℤ) → Inside (planFor s .width) z → Inside (s .width) z
-inside-width s z = subst (λ (w : ℕ). Inside w z) (plan-width s)
+inside-width s z = subst (λ (w : ℕ). Inside w z) (planned-width s)
 
 -- what stream i carries on subcarrier z in symbol n, by what the subcarrier is used for
 module _ (s : Settings) (payload : List ℕ) (n i : ℕ) (z : ℤ) where
@@ -135,7 +130,7 @@ module _ (s : Settings) (payload : List ℕ) (n i : ℕ) (z : ℤ) where
   unfolding carriedOf
   carried-by u e =
       ap (carriedBy (pilotSign (planFor s .width) (planFor s .streams) (s .format) n i) (carrierLevels (planFor s .bits) (labelsOf s payload n i)))
-      (sym e ∙ ap (λ (w : ℕ). useOf w z) (sym (plan-width s)))
+      (sym e ∙ ap (λ (w : ℕ). useOf w z) (sym (planned-width s)))
 
   -- nothing where it is silent
   pub carried-silent : useOf (s .width) z ≡ Unused → Silent ≡ carriedOf s payload n i z
@@ -154,7 +149,7 @@ module _ (s : Settings) (payload : List ℕ) (n i : ℕ) (z : ℤ) where
 -- its pilot or data carrier is one of the plan's
 module _ (s : Settings) (r : Right s) (z : ℤ) (inside : Inside (planFor s .width) z) where
   used : (u : Use) → useOf (s .width) z ≡ u → UseRight (planFor s .width) u
-  used u e = subst (UseRight (planFor s .width)) (ap (λ (w : ℕ). useOf w z) (plan-width s) ∙ e) (use-right (planFor s .width) (plan-fits s r .width) z inside)
+  used u e = subst (UseRight (planFor s .width)) (ap (λ (w : ℕ). useOf w z) (planned-width s) ∙ e) (use-right (planFor s .width) (plan-fits s r .width) z inside)
 
   pub pilot-in : (q : ℕ) → useOf (s .width) z ≡ PilotAt q → q < pilotsOf (planFor s .width)
   pilot-in q e = used (PilotAt q) e

@@ -24,7 +24,7 @@ use Rattle.query.specs.declared.query.Carried.{Carried}
 use Rattle.query.specs.declared.query.QueryAnswer.the-variants.{Carries, Refused as QueryRefused}
 use Rattle.query.specs.Query.{carriedOf, notInFrame, queryOf, queryNumber}
 use Rattle.query.specs.Statements.{OutsideRow, PlaceRow, QueryRefusals}
-use Rattle.query.proofs.QueryLaws.{plan-width}
+use Rattle.settings.proofs.SettingsLaws.{planned-width}
 
 passed : (t : Bool) → T t → t ≡ true
 passed true h = refl
@@ -37,7 +37,7 @@ lower y z = (λ e. record { lt = subst T (sym e) tt }, λ l. passed (ltZ y z) (l
 module _ (a : RawSettings) where
   outside-row : (z : ℤ) → (outside (planFor (settingsOf a) .width) z ≡ true) ↔ OutsideRow a z
   outside-row z =
-      subst (λ (w : ℕ). (outside w z ≡ true) ↔ OutsideRow a z) (sym (plan-width (settingsOf a)))
+      subst (λ (w : ℕ). (outside w z ≡ true) ↔ OutsideRow a z) (sym (planned-width (settingsOf a)))
       (either (ltZ z (minus (reach (a .width)))) (ltZ (pos (reach (a .width) - 1)) z) (lower z (minus (reach (a .width)))) (lower (pos (reach (a .width) - 1)) z))
 
   place-row : (symbol stream : ℕ) (z : ℤ) → (notInFrame (settingsOf a) symbol stream z ≡ true) ↔ PlaceRow a symbol stream z

@@ -17,7 +17,7 @@ use Rattle.laws.proofs.Reflect.{or-false}
 use Rattle.chain.specs.Plan.{widths, carriersOf}
 use Rattle.subcarriers.specs.declared.layout.Use.{Use}
 use Rattle.subcarriers.specs.declared.layout.Use.the-variants.{Silent, Pilot, Data}
-use Rattle.subcarriers.specs.Subcarriers.{usedSubcarriers, pilotSubcarriers, dataSubcarriers, placeIn, useOf, placesOf, subcarrierAt, pilotsOf, outside, Inside, subcarrierFrom, UseRight, NotSilent, PlaceUsed, CarrierPlace}
+use Rattle.subcarriers.specs.Subcarriers.{usedSubcarriers, pilotSubcarriers, dataSubcarriers, placeIn, useOf, placesOf, subcarrierAt, pilotsOf, outside, Inside, subcarrierFrom, UseRight, PlaceUsed, CarrierPlace}
 
 -- a test as a number
 abbrev pub one : Bool → ℕ
@@ -112,11 +112,6 @@ right-use : (width : ℕ) (u : Use) → Holds (rightUse width u) → UseRight wi
 right-use width Silent h = tt
 right-use width (Pilot q) h = h
 right-use width (Data c) h = h
-
-not-silent : (width : ℕ) (u : Use) → (code u ≡ 0 → ⊥) → UseRight width u → NotSilent width u
-not-silent width Silent n h = n refl
-not-silent width (Pilot q) n h = h
-not-silent width (Data c) n h = h
 
 -- at both widths and each of 128 subcarriers: its use, and the subcarrier at its place, or silence where it has none
 abbrev subcarrierClaim : Claim
@@ -231,7 +226,7 @@ place-used-for width h f l =
     let inside : Inside width z = one-same (outside width z) false (places width h f l .0) in
     record {
       inside = inside;
-      used = not-silent width (useOf width z) (λ e. omega (arith, e, places width h f l .1)) (use-right width h z inside);
+      not-silent = λ e. let none : code (useOf width z) ≡ 0 = ap code e in omega (arith, none, places width h f l .1);
     }
 
 -- at both widths and each data carrier: the place of its subcarrier
@@ -263,3 +258,11 @@ sizesClaim = each widths λ w.
 pub sizes-are : Holds sizesClaim
 unfolding usedSubcarriers pilotSubcarriers dataSubcarriers
 sizes-are = sound sizesClaim tt
+
+-- a stream has at most 114 places
+pub places-few : (w : ℕ) → placesOf w ≤ 114
+places-few w = go (eqb w 40)
+  where
+    go : (b : Bool) → cond b 114 56 ≤ 114
+    go true = omega arith
+    go false = omega arith

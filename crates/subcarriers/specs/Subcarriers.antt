@@ -89,16 +89,10 @@ UseRight width Silent = Unit {0}
 UseRight width (Pilot q) = q < pilotsOf width
 UseRight width (Data c) = c < carriersOf width
 
--- so, and it is not silent
-abbrev pub NotSilent : (width : ℕ) → Use → Type 0
-NotSilent width Silent = ⊥
-NotSilent width (Pilot q) = q < pilotsOf width
-NotSilent width (Data c) = c < carriersOf width
-
 -- the subcarrier at place f is one of the channel, and used
 pub record PlaceUsed (width f : ℕ) : Type 0 where
   pub inside : Inside width (subcarrierAt width f)
-  pub used : NotSilent width (useOf width (subcarrierAt width f))
+  pub not-silent : useOf width (subcarrierAt width f) ≡ Silent → ⊥
 
 -- a place that data carrier c stands at
 pub record CarrierPlace (width c : ℕ) : Type 0 where

@@ -6,8 +6,10 @@ use Rattle.demands.proofs.two.two_counts.Tie as tie
 
 returns : tie.Need-returns
 returns c =
-    let st = c .before .before in
-    λ e. c .before .symbol-count .ensures ∙ same-count (st .args .raw) (st .args .other-raw) e ∙ sym (c .symbol-count2 .ensures)
+    let st = c .before .before in (
+      (c .before .symbol-count .ensures, c .symbol-count2 .ensures),
+      λ e. c .before .symbol-count .ensures ∙ same-count (st .args .raw) (st .args .other-raw) e ∙ sym (c .symbol-count2 .ensures),
+    )
 
 symbol-count-requires : tie.Need-symbol-count-requires
 symbol-count-requires c κs = search needs

@@ -21,8 +21,13 @@ returns c =
     → Sentence (a .raw) (a .other-raw) (now (a .payload)) (now (a .other-payload)) (a .symbol) (now (a .out)) (now (a .other-out)) _ _ _ _
     = λ Sentence term.
     of-points Sentence term (a .raw) (a .other-raw) (now (a .payload)) (now (a .other-payload)) (a .symbol) (now (a .out)) (now (a .other-out)) _ _ _ _
-    (one .0) (other .0) (one .1) (other .1) in
-    (told SamePoints same-points, (told LocalPoints local-points, (told DifferingPoints differing-points, told SeedPoints seed-points)))
+    (one .0) (other .0) (one .1) (other .1) in (
+      (one .0, other .0),
+      (
+        (one .1, other .1),
+        (told SamePoints same-points, (told LocalPoints local-points, (told DifferingPoints differing-points, told SeedPoints seed-points))),
+      ),
+    )
 
 points-requires : tie.Need-points-requires
 points-requires c κs = search needs

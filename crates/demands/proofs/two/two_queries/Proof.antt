@@ -16,8 +16,11 @@ returns c =
     let z = toZ-ofZ (st .fits .at) in
     let one = c .before .subcarrier .ensures ∙ ap (queryOf (checkOf (a .raw)) (now (a .payload)) (a .symbol) (a .stream)) z in
     let other = c .subcarrier2 .ensures ∙ ap (queryOf (checkOf (a .other-raw)) (now (a .other-payload)) (a .symbol) (a .stream)) z in (
-      of-queries SameQuery same-query (a .raw) (a .other-raw) (now (a .payload)) (now (a .other-payload)) (a .symbol) (a .stream) (a .at) _ _ one other,
-      of-queries LocalQuery local-query (a .raw) (a .other-raw) (now (a .payload)) (now (a .other-payload)) (a .symbol) (a .stream) (a .at) _ _ one other,
+      (one, other),
+      (
+        of-queries SameQuery same-query (a .raw) (a .other-raw) (now (a .payload)) (now (a .other-payload)) (a .symbol) (a .stream) (a .at) _ _ one other,
+        of-queries LocalQuery local-query (a .raw) (a .other-raw) (now (a .payload)) (now (a .other-payload)) (a .symbol) (a .stream) (a .at) _ _ one other,
+      ),
     )
 
 subcarrier-requires : tie.Need-subcarrier-requires

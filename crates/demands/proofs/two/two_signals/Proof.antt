@@ -10,8 +10,13 @@ returns c =
     let first = second .before .before .before .before in
     let st = first .before .before .before .before in
     let one = first .write .ensures in
-    let other = second .write2 .ensures in
-    of-signals (st .args .raw) (st .args .other-raw) (now (st .args .out)) (now (st .args .other-out)) _ _ _ _ (one .0) (other .0) (one .1) (other .1)
+    let other = second .write2 .ensures in (
+      (one .0, other .0),
+      (
+        (one .1, other .1),
+        of-signals (st .args .raw) (st .args .other-raw) (now (st .args .out)) (now (st .args .other-out)) _ _ _ _ (one .0) (other .0) (one .1) (other .1),
+      ),
+    )
 
 write-requires : tie.Need-write-requires
 write-requires c κs = search needs

@@ -3,7 +3,8 @@ use mathlib.Core.Path.{_≡_}
 use native.Mathlib.Omega.{arith}
 use borrow.Author.Needs.{needs}
 use Rattle.frame.specs.Points.{floatsOf}
-use Rattle.frame.proofs.FrameLaws.{places-few, floats-are}
+use Rattle.subcarriers.proofs.SubcarrierLaws.{places-few}
+use Rattle.frame.proofs.FrameLaws.{floats-are}
 use Rattle.frame.proofs.points.floats_of.Statement.{statement}
 use Rattle.frame.proofs.points.floats_of.Tie as tie
 

@@ -2,7 +2,7 @@ use mathlib.Core.Path.{_≡_, sym, ap, subst}
 use mathlib.Core.List.{[], _∷_}
 use Prim.Native.Nat.{ℕ, _-_, _*_, _/_, _≤_}
 use native.Mathlib.Omega.{arith}
-use lib.Dec.{T, eqb}
+use lib.Dec.{T}
 use lib.Ieee.{nan}
 use denote.Ref.{now}
 use borrow.Author.Needs.{needs}
@@ -14,7 +14,8 @@ use Rattle.chain.proofs.Counts.{axis-known, axis-some}
 use Rattle.mapper.specs.Mapped.{LevelTable}
 use Rattle.modulator.specs.Symbol.{streamFloats, symbolFloat}
 use Rattle.modulator.specs.Asked.{halvesIn}
-use Rattle.modulator.proofs.RunningLaws.{few-places, StreamIn, stream-in, stream-asked, stream-more}
+use Rattle.subcarriers.proofs.SubcarrierLaws.{places-few}
+use Rattle.modulator.proofs.RunningLaws.{StreamIn, stream-in, stream-asked, stream-more}
 use Rattle.modulator.proofs.symbol.symbol_points.Statement.{statement}
 use Rattle.modulator.proofs.symbol.symbol_points.Tie as tie
 
@@ -97,7 +98,7 @@ places-of-requires : tie.Need-places-of-requires Inv-loop μ-loop
 places-of-requires c κs = search needs
 
 mul-floats : tie.Need-mul-floats Inv-loop μ-loop
-mul-floats c = omega (arith, few-places (eqb (start c .args .plan .width) 40), c .places-of .ensures)
+mul-floats c = omega (arith, places-few (start c .args .plan .width), c .places-of .ensures)
 
 loop-holds : tie.Need-loop-holds Inv-loop μ-loop
 loop-holds c = (omega arith, fill-end _ _ _ (omega arith) (fill-none _ _ _ _))
