@@ -65,7 +65,7 @@ fn run(
 }
 
 // By how many carriers a stream is rotated.
-fn rotated_carriers(width: usize, stream: usize) -> usize
+pub fn rotated_carriers(width: usize, stream: usize) -> usize
     requires { ⌜ stream < 4 ⌝ }
     ensures { λ r. ⌜ r ≡ (stream * 2 % 3 + 3 * (stream / 3)) * rotation width ⌝ }
 {
@@ -112,7 +112,7 @@ fn symbol_halves(halves: &mut [u8], coded: &[u8], plan: Plan)
 }
 
 // Puncturing groups of one encoder in a symbol.
-fn groups_of(plan: Plan) -> usize
+pub fn groups_of(plan: Plan) -> usize
     requires { ⌜ Fits plan ⌝ }
     ensures { λ r. ⌜ r ≡ groupsOf plan ⌝ }
 {

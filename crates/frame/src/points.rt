@@ -40,7 +40,7 @@ pub fn labels_of(halves: &mut [u8], payload: &[u8], s: Settings, n: usize)
 }
 
 // The floats of a symbol.
-fn floats_of(s: Settings) -> usize
+pub fn floats_of(s: Settings) -> usize
     requires { ⌜ Right s ⌝ }
     ensures { λ r. ⌜ (r ≡ floatsOf s) × (r ≤ 912) ⌝ }
 {

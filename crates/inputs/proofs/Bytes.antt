@@ -14,7 +14,7 @@ use Rattle.chain.proofs.InputLaws.{payload-bit, ranges, data-service, data-payl
 use Rattle.inputs.specs.Asked.{DataAsked, DataFilled}
 
 -- a list of zeros is zero everywhere, past its end too
-all-zero : (l : List ℕ) → T (every (λ (x : ℕ). eqb x 0) l) → (j : ℕ) → getD l j 0 ≡ 0
+pub all-zero : (l : List ℕ) → T (every (λ (x : ℕ). eqb x 0) l) → (j : ℕ) → getD l j 0 ≡ 0
 all-zero [] t j = refl
 all-zero (x ∷ l) t zero = eqb→eq x 0 (both-left (eqb x 0) (every (λ (y : ℕ). eqb y 0) l) t)
 all-zero (x ∷ l) t (suc j) = all-zero l (both-right (eqb x 0) (every (λ (y : ℕ). eqb y 0) l) t) j

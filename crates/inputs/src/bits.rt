@@ -7,7 +7,7 @@ ghost use Rattle.chain.specs.DataBits.{payloadBit};
 ghost use Rattle.inputs.specs.Asked.{DataAsked, DataFilled};
 
 // The bits of a byte, low bit first.
-fn put_byte(raw: &mut [u8], at: usize, byte: u8)
+pub fn put_byte(raw: &mut [u8], at: usize, byte: u8)
     requires { ⌜ (at + 8 ≤ length (now raw)) × (at ≤ 2 ^ 27) ⌝ }
     ensures { λ _. ⌜ Filled 0 at (λ k. byte / 2 ^ k % 2) 8 (now (raw .entry)) (now (raw .exit)) ⌝ }
 {
@@ -34,7 +34,7 @@ fn put_bytes(raw: &mut [u8], payload: &[u8], to: usize, from: usize, count: usiz
 }
 
 // How many of `count` numbers from `start` on are below a mark.
-pub(crate) fn below_mark(mark: usize, start: usize, count: usize) -> usize
+pub fn below_mark(mark: usize, start: usize, count: usize) -> usize
     ensures { λ r. ⌜ r ≡ min (mark - start) count ⌝ }
 {
     if mark <= start {

@@ -5,12 +5,12 @@ use mathlib.Core.Logic.{⊎-elim}
 use Prim.Native.Nat.{ℕ, zero, suc, _+_, _-_, _<_, _≤_}
 use native.Mathlib.Nat.{le-of-suc-le-suc, not-suc-le-zero}
 use native.Mathlib.Omega.{arith}
-use lib.ListN.{length, getD, drop, length-append, length-drop, List·getD-append}
-use lib.Seq.{ext-getD, getD-append-add, getD-drop}
+use lib.ListN.{length, getD, take, drop, length-append, length-drop, List·getD-append}
+use lib.Seq.{ext-getD, getD-append-add, getD-drop, getD-take, length-take-le}
 use Rattle.laws.specs.Filled.{Filled}
 use Rattle.laws.specs.Firsts.{firsts}
 use Rattle.laws.proofs.Filling.{fill-at}
-use Rattle.laws.proofs.Search.{lt-or-le}
+use Rattle.laws.proofs.Search.{lt-or-le, parts}
 
 pub length-firsts : {A : Type 0} (f : ℕ → A) (n : ℕ) → length (firsts f n) ≡ n
 length-firsts f zero = refl
@@ -45,3 +45,38 @@ module _ {A : Type 0} (z : A) (f : ℕ → A) (n : ℕ) (d₀ : List A) where
       (λ (b : i < n). fill-at z f p i b ∙ sym (written-at i b))
       (λ (b : n ≤ i). p .after i (omega arith) ∙ sym (rest-at i b))
       (lt-or-le i n))
+
+-- a list filled from any place on: what stood before, the function's values, and what stood after
+pub fill-into : {A : Type 0} (z : A) (a : ℕ) (f : ℕ → A) (n : ℕ) (d₀ d : List A) → a + n ≤ length d₀ → Filled z a f n d₀ d
+    → d ≡ take a d₀ ++ (firsts f n ++ drop (a + n) d₀)
+fill-into {A} z a f n d₀ d h p =
+    ext-getD z d (take a d₀ ++ rest)
+    (omega (arith, p .same, length-append (take a d₀) rest, length-append (firsts f n) (drop (a + n) d₀), front, length-firsts f n, length-drop (a + n) d₀))
+    (λ i l. parts a (a + n) i
+    (λ (b : i < a). p .before i b ∙ sym (getD-take a d₀ i z b) ∙ sym (List·getD-append (take a d₀) rest z i (rw front b)))
+    (λ (low : a ≤ i) (high : i < a + n).
+    let e : a + (i - a) ≡ i = omega arith in
+    ap (λ (k : ℕ). getD d k z) (sym e) ∙ p .done (i - a) (omega arith)
+    ∙ sym (getD-firsts z f n (i - a) (omega arith))
+    ∙ sym (List·getD-append (firsts f n) (drop (a + n) d₀) z (i - a) (rw (length-firsts f n) (omega arith)))
+    ∙ sym (behind i low))
+    (λ (low : a + n ≤ i).
+    let e : length (firsts f n) + (i - a - n) ≡ i - a = omega (arith, length-firsts f n) in
+    let g : a + n + (i - a - n) ≡ i = omega arith in
+    p .after i low
+    ∙ ap (λ (k : ℕ). getD d₀ k z) (sym g)
+    ∙ sym (getD-drop (a + n) d₀ (i - a - n) z)
+    ∙ sym (getD-append-add (firsts f n) (drop (a + n) d₀) (i - a - n) z)
+    ∙ ap (λ (k : ℕ). getD rest k z) e
+    ∙ sym (behind i (omega arith))))
+  where
+    rest : List A
+    rest = firsts f n ++ drop (a + n) d₀
+
+    front : length (take a d₀) ≡ a
+    front = length-take-le a d₀ (omega arith)
+
+    behind : (i : ℕ) → a ≤ i → getD (take a d₀ ++ rest) i z ≡ getD rest (i - a) z
+    behind i low =
+        let e : length (take a d₀) + (i - a) ≡ i = omega (arith, front) in
+        ap (λ (k : ℕ). getD (take a d₀ ++ rest) k z) (sym e) ∙ getD-append-add (take a d₀) rest (i - a) z

@@ -209,14 +209,14 @@ abbrev pub runStart : (width r : ℕ) → ℕ
 runStart width zero = 0
 runStart width (suc r) = runEnd (runOf width r)
 
-start-next : (width r : ℕ) → runStart width (r + 1) ≡ runEnd (runOf width r)
+pub start-next : (width r : ℕ) → runStart width (r + 1) ≡ runEnd (runOf width r)
 start-next width r = rw (add-one r)
 
-start-place : (width : ℕ) → RunsRight width → (r : ℕ) → r < 2 * halfRuns width → runStart width r ≡ runOf width r .place
+pub start-place : (width : ℕ) → RunsRight width → (r : ℕ) → r < 2 * halfRuns width → runStart width r ≡ runOf width r .place
 start-place width right zero h = sym (right .first)
 start-place width right (suc r) h = sym (right .next r (omega arith)) ∙ ap (λ (k : ℕ). runOf width k .place) (add-one r)
 
-start-end : (width : ℕ) → RunsRight width → 0 < 2 * halfRuns width → runStart width (2 * halfRuns width) ≡ placesOf width
+pub start-end : (width : ℕ) → RunsRight width → 0 < 2 * halfRuns width → runStart width (2 * halfRuns width) ≡ placesOf width
 start-end width right some =
     let one : 2 * halfRuns width ≡ 2 * halfRuns width - 1 + 1 = omega arith in
     ap (runStart width) one ∙ start-next width (2 * halfRuns width - 1) ∙ right .last

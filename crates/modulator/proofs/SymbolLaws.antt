@@ -158,7 +158,7 @@ module _ (p : Plan) (fits : Fits p) where
   sent-is h format n i z = refl
 
   -- what is sent on a subcarrier of a use
-  sent-used : (h : ℕ → ℕ → ℕ) (format n i : ℕ) (z : ℤ) (u : Use) → useOf (p .width) z ≡ u
+  pub sent-used : (h : ℕ → ℕ → ℕ) (format n i : ℕ) (z : ℤ) (u : Use) → useOf (p .width) z ≡ u
       → sentLevels p h format n i z
       ≡ turnedIf (upper (p .width) z) (usedLevels (pilotSign (p .width) (p .streams) format n i) (carrierLevels (p .bits) (h i)) u)
   unfolding carriedLevels

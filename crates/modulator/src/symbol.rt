@@ -65,7 +65,7 @@ fn run_points(
 }
 
 // A pilot's point as it is sent: its sign on the first level before the turn.
-fn pilot_point(sign: f32, turned: bool) -> Point
+pub fn pilot_point(sign: f32, turned: bool) -> Point
     ensures { λ r. ⌜ PilotWhole sign turned r ⌝ }
 {
     let p = Point {

@@ -1,2 +1,3 @@
 pub mod SubcarrierLaws
 pub mod RunLaws
+pub mod NumberLaws

@@ -2,6 +2,7 @@
 ghost use mathlib.Core.Path.{_≡_};
 ghost use Prim.Native.Nat.{_*_, _<_, _≤_};
 ghost use lib.Dec.{T};
+ghost use lib.IntN.{pos, _-ℤ_};
 ghost use Rattle.laws.specs.Test.{among};
 ghost use Rattle.chain.specs.Plan.{widths};
 ghost use Rattle.subcarriers.specs.Subcarriers.{usedSubcarriers, placeIn, useOf, placesOf, subcarrierAt, subcarrierFrom, outside, Inside};
@@ -196,6 +197,32 @@ fn use_at(width: usize, f: usize) -> Use
         return Use::Data(run.carrier + k);
     }
     Use::Pilot(run.pilot)
+}
+
+// A place less a number of places, below 0 where it is more.
+fn places_from(f: usize, k: usize) -> i32
+    requires { ⌜ (f < 114) × (k < 64) ⌝ }
+    ensures { λ r. ⌜ r ≡ pos f -ℤ pos k ⌝ }
+{
+    f as i32 - k as i32
+}
+
+// The subcarrier at place f, by its own number.
+pub fn subcarrier_of(width: usize, f: usize) -> i32
+    requires { ⌜ T (among widths width) ⌝ }
+    requires { ⌜ f < placesOf width ⌝ }
+    ensures { λ r. ⌜ r ≡ subcarrierAt width f ⌝ }
+{
+    if width == 40 {
+        if f < 57 {
+            return places_from(f, 58);
+        }
+        return places_from(f, 55);
+    }
+    if f < 28 {
+        return places_from(f, 28);
+    }
+    places_from(f, 27)
 }
 
 // What a subcarrier of the channel is used for.

@@ -24,13 +24,15 @@
 //! - `pilots`: step 7, tables 11 and 12 and the polarity
 //! - `points`: step 8, and the points of a symbol in the order of the slice
 //! - `question`: the one-subcarrier question, before step 8
-//!
-//! The reader is to stand beside these as a module of its own.
+//! - `reader`: the strict reader, its start and its step, refusals 12, 8 and 11
+//! - `point_tables`: refusal 9, the points that the rules give
+//! - `code_search`: refusal 10, the encoder inputs that give the coded bits
 
 #![forbid(unsafe_code)]
 
 pub mod carriers;
 pub mod chain;
+pub mod code_search;
 pub mod crc;
 pub mod data_bits;
 pub mod encoder;
@@ -39,10 +41,12 @@ pub mod listing;
 pub mod mapper;
 pub mod parser;
 pub mod pilots;
+pub mod point_tables;
 pub mod points;
 pub mod puncture;
 pub mod question;
 pub mod rates;
+pub mod reader;
 pub mod refusal;
 #[cfg(test)]
 mod samples;
@@ -54,6 +58,7 @@ pub use carriers::{data_subcarriers, pilot_subcarriers, question_range, used_sub
 pub use chain::{
     carrier_labels, check_symbol, coded_frame, frame_labels, own_labels, symbol_labels,
 };
+pub use code_search::{kept_bits, names_at_places, search, search_inputs, Found, Name};
 pub use crc::crc8;
 pub use data_bits::{data_bits, data_bits_from, plain_bits};
 pub use encoder::{encode, encoder_inputs, Encoder};
@@ -62,6 +67,7 @@ pub use listing::listing;
 pub use mapper::{level, point, Point};
 pub use parser::{axis_bits, deal};
 pub use pilots::{pilot, pilot_pattern, polarity, polarity_offset};
+pub use point_tables::{data_table, pilot_table, read_labels, Entry};
 pub use points::{float, floats_per_symbol, frame_points, points, symbol_levels, turn, turned};
 pub use puncture::{pattern, puncture, Kept};
 pub use question::{carrier, Carrier};
@@ -69,6 +75,7 @@ pub use rates::{
     bits_per_carrier, block, coded_bits_per_symbol, data_bits_per_symbol, data_carriers, encoders,
     rate, streams, symbol_count,
 };
+pub use reader::{reader_place, reader_start, reader_step, Answer, OpenSettings, State};
 pub use scrambler::{register, scramble, scrambler_sequence, Register};
 pub use settings::{check, Settings};
 pub use sig::{sig_read, sig_write, SigFields};

@@ -1,0 +1,75 @@
+-- The data bits of a symbol read back (document 01 step 1 undone; refusal 11; what the reader carries between symbols). Bits are given by their number
+-- in the symbol, whose first data bit is number `start` of the frame.
+use mathlib.Core.Bool.{Bool, true, cond}
+use mathlib.Core.List.{List}
+use Prim.Native.Nat.{ℕ, zero, suc, _+_, _-_, _*_, _/_, _%_, _^_, _<_, _≤_, min}
+use lib.Dec.{eqb, ltb}
+use lib.ListN.{length, getD}
+use Rattle.laws.specs.Test.{below}
+use Rattle.chain.specs.Scrambler.{scramblerBit}
+use Rattle.chain.specs.DataBits.{payloadEnd, tailEnd}
+
+-- data bit d of the symbol: the input with the scrambler's output taken off, from state s at the symbol's first bit
+abbrev pub plainBit : (s : ℕ) (X : ℕ → ℕ) (d : ℕ) → ℕ
+plainBit s X d = (X d + scramblerBit s d) % 2
+
+-- whether data bit d of the frame may be the input b with the plain bit a: service and pad bits are zero before scrambling, tail inputs are zero, payload
+-- bits are free
+unfoldable pub inputOk : (bytes encoders d b a : ℕ) → Bool
+inputOk bytes encoders d b a =
+    cond (ltb d 16) (eqb a 0)
+    (cond (ltb d (payloadEnd bytes)) true
+    (cond (ltb d (tailEnd bytes encoders)) (eqb b 0) (eqb a 0)))
+
+-- no "service, tail or pad bit wrong" among a symbol's `count` inputs X with their plain bits P
+unfoldable pub framed : (bytes encoders start count : ℕ) (X P : ℕ → ℕ) → Bool
+framed bytes encoders start count X P = below (λ d. inputOk bytes encoders (start + d) (X d) (P d)) count
+
+-- "the payload bits before" data bit d: service bits are none, and past the payload there are no more
+abbrev pub payloadBefore : (bytes d : ℕ) → ℕ
+payloadBefore bytes d = min (d - 16) (8 * bytes)
+
+-- the number that r bits from a on write, the first the lowest
+unfoldable pub packed : (f : ℕ → ℕ) (a r : ℕ) → ℕ
+packed f a zero = 0
+packed f a (suc r) = packed f a r + 2 ^ r * f (a + r)
+
+-- byte j of payload bits, and the "part of a byte" that the first m bits leave
+abbrev pub byteOf : (f : ℕ → ℕ) (j : ℕ) → ℕ
+byteOf f j = packed f (8 * j) 8
+
+abbrev pub partOf : (f : ℕ → ℕ) (m : ℕ) → ℕ
+partOf f m = packed f (8 * (m / 8)) (m % 8)
+
+-- payload bit k as it is known after a symbol with plain bits P: out of the part of a byte before the symbol, or out of the symbol
+unfoldable pub knownBit : (bytes start part : ℕ) (P : ℕ → ℕ) (k : ℕ) → ℕ
+knownBit bytes start part P k =
+    let m = payloadBefore bytes start in
+    cond (ltb k m) (part / 2 ^ (k - 8 * (m / 8)) % 2) (P (16 + k - start))
+
+-- what the calls ask
+
+pub record PlainAsked (plain inputs : List ℕ) (state count : ℕ) : Type 0 where
+  pub room : count ≤ length plain
+  pub whole-inputs : count ≤ length inputs
+  pub few : count ≤ 2160
+  pub in-range : state < 128
+  pub bits : (d : ℕ) → d < count → getD inputs d 0 < 2
+
+pub record FramedAsked (inputs plain : List ℕ) (bytes encoders start count : ℕ) : Type 0 where
+  pub whole-inputs : count ≤ length inputs
+  pub whole-plain : count ≤ length plain
+  pub few : count ≤ 2160
+  pub near : start ≤ 2 ^ 27
+  pub short : bytes ≤ 65535
+  pub one-or-two : encoders ≤ 2
+
+pub record PayloadAsked (payload plain : List ℕ) (part bytes start count : ℕ) : Type 0 where
+  pub whole-payload : bytes ≤ length payload
+  pub short : bytes ≤ 65535
+  pub whole-plain : count ≤ length plain
+  pub few : count ≤ 2160
+  pub near : start ≤ 2 ^ 27
+  pub bits : (d : ℕ) → d < count → getD plain d 0 < 2
+  -- "a part of a byte as many bits long as the payload bits before that symbol leave modulo 8"
+  pub part-fits : part < 2 ^ (payloadBefore bytes start % 8)

@@ -1,0 +1,3 @@
+pub mod Deframed
+pub mod Statements
+pub mod Asked

@@ -1,0 +1,6 @@
+pub mod FirstLaws
+pub mod LabelLaws
+pub mod PointLaws
+pub mod UseLaws
+pub mod SearchLaws
+pub mod GivenLaws

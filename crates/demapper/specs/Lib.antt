@@ -1,0 +1,3 @@
+pub mod Demapped
+pub mod Asked
+pub mod Statements

@@ -1,0 +1,3 @@
+pub mod StateLaws
+pub mod StepLaws
+pub mod HearLaws

@@ -1,0 +1,5 @@
+pub mod State
+pub mod Step
+pub mod Place
+pub mod Statements
+pub mod Asked
