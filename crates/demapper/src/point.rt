@@ -94,7 +94,7 @@ fn put_label(out: &mut [u8], at: usize, s: usize, label: u8)
     }
 }
 
-// A data carrier's point: its label bits from `at` on, and whether it is a point of the constellation. The bits are stored either way, without a branch.
+// A data carrier's point: its label bits from `at` on, and whether it is a point of the constellation. Bits are stored either way: no branch goes by the data.
 pub fn hear_data(
     out: &mut [u8],
     at: usize,

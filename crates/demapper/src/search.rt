@@ -11,8 +11,7 @@ use pilots::pilot::polarity_bit;
 use subcarriers::layout::places_of;
 ghost use mathlib.Core.Path.{_≡_};
 ghost use mathlib.Core.Bool.{_&&_};
-ghost use Prim.Native.Nat.{_<_};
-ghost use lib.Dec.{T, eqb, leb};
+ghost use lib.Dec.{eqb, leb};
 ghost use Rattle.demapper.specs.Demapped.{searchOf};
 ghost use Rattle.demapper.specs.Asked.{PlaceAsked, PlaceGiven, PlaceHeard, SymbolAsked, BitsShown};
 

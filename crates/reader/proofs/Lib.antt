@@ -1,3 +1,4 @@
 pub mod StateLaws
 pub mod StepLaws
 pub mod HearLaws
+pub mod Refusals

@@ -1,12 +1,30 @@
 -- What is proved of the reader beside its contracts, in document 01's words. The terms are in proofs/.
 use mathlib.Core.Path.{_≡_}
 use mathlib.Core.Bool.{false}
-use Prim.Native.Nat.{ℕ, _%_, _^_, _<_}
+use mathlib.Core.List.{List}
+use mathlib.Core.Logic.{_↔_, _⊎_}
+use Prim.Native.Nat.{ℕ, _+_, _%_, _^_, _<_, _≤_}
+use lib.ListN.{length}
+use lib.IntN.{ℤ}
+use lib.Ieee.{Float}
 use Rattle.settings.specs.declared.settings.Settings.{Settings}
+use Rattle.settings.specs.declared.settings.Checked.the-variants.{Accepted}
+use Rattle.settings.specs.Settings.{checkOf, settingsOf, planFor}
 use Rattle.settings.specs.Symbols.{symbolsOf}
+use Rattle.settings.specs.Statements.{SettingsRefusals}
+use Rattle.subcarriers.specs.Subcarriers.{placesOf, subcarrierAt}
+use Rattle.frame.specs.Points.{floatsOf}
+use Rattle.demapper.specs.Demapped.{shownBit, PointByRules}
+use Rattle.decoder.specs.Statements.{SomeInputs}
 use Rattle.deframer.specs.Deframed.{payloadBefore}
+use Rattle.deframer.specs.Statements.{RightBit}
+use Rattle.reader.specs.declared.state.OpenSettings.{OpenSettings}
 use Rattle.reader.specs.declared.state.Reader.{Reader}
-use Rattle.reader.specs.State.{historyOf, firstBit}
+use Rattle.reader.specs.declared.step.StepAnswer.the-variants.{BadPoint}
+use Rattle.reader.specs.declared.place.PlaceAnswer.the-variants.{Found}
+use Rattle.reader.specs.State.{openRaw, startOf, startNumber, historyOf, firstBit, endedOf}
+use Rattle.reader.specs.Step.{scramblerFor, plainOf, heardInput, stepOf, stepInto, stepNumber}
+use Rattle.reader.specs.Place.{placeOf}
 
 -- "A state in range has accepted settings, a symbol number below the count, histories below 64, from symbol 1 on a scrambler of 1 to 127, and a part of a
 -- byte as many bits long as the payload bits before that symbol leave modulo 8, its other bits zero"; and it is not ended
@@ -18,3 +36,97 @@ pub record InRange (s : Settings) (st : Reader) : Type 0 where
   pub scrambler-some : (st .symbol ≡ 0 → ⊥) → 0 < st .scrambler
   pub scrambler-most : (st .symbol ≡ 0 → ⊥) → st .scrambler < 128
   pub part-fits : st .part < 2 ^ (payloadBefore (s .length) (firstBit s (st .symbol)) % 8)
+
+-- ---- refusals: each "given exactly when" its row applies and none tested before it does; 0 where none applies
+
+-- the settings that a state's numbers mean
+abbrev pub settingsIn : Reader → Settings
+settingsIn st = settingsOf (openRaw (st .settings))
+
+-- a state in range, its settings accepted
+pub record InReach (st : Reader) : Type 0 where
+  pub accepted : checkOf (openRaw (st .settings)) ≡ Accepted (settingsIn st)
+  pub in-range : InRange (settingsIn st) st
+
+-- 12, "reader state finished, ended by 9 to 11, or outside its ranges"
+abbrev pub ClosedRow : Reader → Type 0
+ClosedRow st = InReach st → ⊥
+
+-- 8, "the lent slice for points .. or payload is too short"
+abbrev pub RoomRow : Reader → (floats bytes : ℕ) → Type 0
+RoomRow st floats bytes = (floats < floatsOf (settingsIn st)) ⊎ (bytes < settingsIn st .length)
+
+-- 9, "some point or pilot is not one the rules give"
+pub record PointRow (st : Reader) (points : List Float) : Type 0 where
+  pub stream : ℕ
+  pub place : ℕ
+  pub stream-in : stream < planFor (settingsIn st) .streams
+  pub place-in : place < placesOf (settingsIn st .width)
+  pub not-given : PointByRules (planFor (settingsIn st)) points (settingsIn st .format) (st .symbol) stream place → ⊥
+
+-- the label bits that the points show, and the inputs that they force after the state's histories
+abbrev pub shownIn : Reader → List Float → (i r : ℕ) → ℕ
+shownIn st points i r = shownBit (planFor (settingsIn st)) points i r
+
+abbrev pub inputIn : Reader → List Float → (d : ℕ) → ℕ
+inputIn st points d = heardInput (settingsIn st) st (shownIn st points) d
+
+-- 10, "no data bits give these coded bits after the earlier ones"
+abbrev pub CodeRow : Reader → List Float → Type 0
+CodeRow st points = SomeInputs (planFor (settingsIn st)) (historyOf st) (shownIn st points) → ⊥
+
+-- a data bit of the symbol, by its number in it, that is a service, tail or pad bit and wrong
+pub record WrongBit (s : Settings) (st : Reader) (X : ℕ → ℕ) : Type 0 where
+  pub number : ℕ
+  pub inside : number < planFor s .dbps
+  pub wrong : RightBit (s .length) (planFor s .encoders) (firstBit s (st .symbol) + number) (X number) (plainOf st X number) → ⊥
+
+-- 11, "service, tail or pad bit wrong, or the seed would be 0"
+abbrev pub FrameRow : Reader → List Float → Type 0
+FrameRow st points = (scramblerFor st (inputIn st points) ≡ 0) ⊎ WrongBit (settingsIn st) st (inputIn st points)
+
+-- the step: 12 first, and of a state in range 8, 9, 10, 11 in this order
+abbrev pub StepRefusals : Type 0
+StepRefusals = (st : Reader) (points : List Float) (bytes : ℕ) → let n = stepNumber (stepOf st points bytes .answer) in
+    ((n ≡ 12) ↔ ClosedRow st)
+    × (InReach st
+    → ((n ≡ 8) ↔ (RoomRow st (length points) bytes × Unit {0}))
+    × (((n ≡ 9) ↔ (PointRow st points × ((RoomRow st (length points) bytes → ⊥) × Unit {0})))
+    × (((n ≡ 10) ↔ (CodeRow st points × ((RoomRow st (length points) bytes → ⊥) × ((PointRow st points → ⊥) × Unit {0}))))
+    × (((n ≡ 11) ↔ (FrameRow st points × ((RoomRow st (length points) bytes → ⊥) × ((PointRow st points → ⊥) × ((CodeRow st points → ⊥) × Unit {0})))))
+    × ((n ≡ 0) ↔ ((RoomRow st (length points) bytes → ⊥) × ((PointRow st points → ⊥) × ((CodeRow st points → ⊥) × ((FrameRow st points → ⊥) × Unit {0})))))))))
+
+-- "9 also returns the place: streams in order, subcarriers rising, the first failing point ends the search"
+pub record FirstPlace (st : Reader) (points : List Float) (i : ℕ) (z : ℤ) : Type 0 where
+  pub place : ℕ
+  pub stream-in : i < planFor (settingsIn st) .streams
+  pub place-in : place < placesOf (settingsIn st .width)
+  pub subcarrier : z ≡ subcarrierAt (settingsIn st .width) place
+  pub not-given : PointByRules (planFor (settingsIn st)) points (settingsIn st .format) (st .symbol) i place → ⊥
+  pub streams-before : (j f : ℕ) → j < i → f < placesOf (settingsIn st .width)
+      → PointByRules (planFor (settingsIn st)) points (settingsIn st .format) (st .symbol) j f
+  pub places-before : (f : ℕ) → f < place → PointByRules (planFor (settingsIn st)) points (settingsIn st .format) (st .symbol) i f
+
+abbrev pub PlaceIsFirst : Type 0
+PlaceIsFirst = (st : Reader) (points : List Float) (bytes i : ℕ) (z : ℤ) → stepOf st points bytes .answer ≡ BadPoint i z → FirstPlace st points i z
+
+-- "A refusal .. writes nothing", and what state stands beside it: 8 and 12 give back the state as it was, 9 to 11 with only its end marked
+abbrev pub RefusedUnchanged : Type 0
+RefusedUnchanged = (st : Reader) (points : List Float) (payload : List ℕ) → (stepNumber (stepOf st points (length payload) .answer) ≡ 0 → ⊥)
+    → stepInto st points payload ≡ payload
+
+abbrev pub RefusedState : Type 0
+RefusedState = (st : Reader) (points : List Float) (bytes : ℕ) → let r = stepOf st points bytes in
+    (stepNumber (r .answer) ≡ 8 → r .state ≡ st) × ((stepNumber (r .answer) ≡ 12 → r .state ≡ st)
+    × ((stepNumber (r .answer) ≡ 9 → r .state ≡ endedOf st) × ((stepNumber (r .answer) ≡ 10 → r .state ≡ endedOf st)
+    × (stepNumber (r .answer) ≡ 11 → r .state ≡ endedOf st))))
+
+-- the start: 1 to 4, and 5 never; beside a refusal a state from which every step is 12
+abbrev pub StartRefusals : Type 0
+StartRefusals = (o : OpenSettings) → let n = startNumber (startOf o .answer) in
+    SettingsRefusals (openRaw o) n × ((n ≡ 5 → ⊥) × ((n ≡ 0 → ⊥) → ClosedRow (startOf o .state)))
+
+-- the place call and the step are of one search: with room for both, the step gives 9 exactly where the place call finds a place, and it is the same
+abbrev pub PlaceTied : Type 0
+PlaceTied = (st : Reader) (points : List Float) (bytes : ℕ) → InReach st → settingsIn st .length ≤ bytes → (i : ℕ) (z : ℤ)
+    → (stepOf st points bytes .answer ≡ BadPoint i z) ↔ (placeOf st points ≡ Found i z)

@@ -1,0 +1,440 @@
+-- The reader's refusals, each given exactly when its row of document 01's table applies and none tested before it does; the place of 9; what a refusal
+-- leaves. Assumes nothing.
+use mathlib.Core.Path.{_≡_, _∙_, refl, sym, ap, ap₂, subst}
+use mathlib.Core.Bool.{Bool, true, false, cond, not, _||_, _&&_}
+use mathlib.Core.List.{List, [], _∷_}
+use mathlib.Core.Logic.{_↔_, _⊎_, inl, inr, ⊎-elim}
+use Prim.Native.Nat.{ℕ, _+_, _*_, _<_, _≤_}
+use native.Mathlib.Omega.{arith}
+use borrow.Author.Tests.{ltb-false, lt-ltb, le-ltb}
+use lib.Dec.{T, eqb, ltb}
+use lib.ListN.{length}
+use lib.IntN.{ℤ, pos}
+use lib.Ieee.{Float}
+use Rattle.laws.specs.Test.{below, below-of}
+use Rattle.laws.specs.Refusals.{Rule, firstOf}
+use Rattle.laws.proofs.Refusing.{given-exactly, true-not-false}
+use Rattle.laws.proofs.Reflect.{less, either}
+use Rattle.laws.proofs.Search.{AllBelow, FirstFailing as FirstWrong, search-below}
+use Rattle.chain.specs.Decoder.{decodes}
+use Rattle.settings.specs.declared.settings.Refusal.{Refusal}
+use Rattle.settings.specs.declared.settings.Refusal.the-variants.{Room, Code, Frame, Closed}
+use Rattle.settings.specs.declared.settings.Settings.{Settings}
+use Rattle.settings.specs.declared.settings.Checked.{Checked}
+use Rattle.settings.specs.declared.settings.Checked.the-variants.{Accepted, Refused}
+use Rattle.settings.specs.Settings.{numberOf, checkOf, checkedNumber, settingsOf, planFor, Right}
+use Rattle.settings.specs.Statements.{SettingsRefusals}
+use Rattle.settings.proofs.SettingsLaws.{right, passed, plan-fits, planned-width}
+use Rattle.settings.proofs.Refusals.{settings-refusals}
+use Rattle.subcarriers.specs.Subcarriers.{placesOf, subcarrierAt}
+use Rattle.frame.specs.Points.{floatsOf}
+use Rattle.demapper.specs.declared.search.Search.{Search}
+use Rattle.demapper.specs.declared.search.Search.the-variants.{AllGiven, At}
+use Rattle.demapper.specs.Demapped.{pointGiven, searchOf, shownBit, PointByRules}
+use Rattle.demapper.specs.Statements.{AllPass, FirstFailing}
+use Rattle.demapper.proofs.GivenLaws.{given-exactly as given-by-rules, search-cases, shown-bit}
+use Rattle.decoder.specs.Statements.{SomeInputs}
+use Rattle.decoder.proofs.ExtLaws.{code-exactly}
+use Rattle.deframer.specs.Deframed.{inputOk, framed}
+use Rattle.deframer.specs.Statements.{RightBit}
+use Rattle.deframer.proofs.Framing.{T-true, framed-exactly, right-ok}
+use Rattle.reader.specs.declared.state.OpenSettings.{OpenSettings}
+use Rattle.reader.specs.declared.state.Reader.{Reader}
+use Rattle.reader.specs.declared.state.Started.{Started}
+use Rattle.reader.specs.declared.step.StepAnswer.{StepAnswer}
+use Rattle.reader.specs.declared.step.StepAnswer.the-variants.{First, Next, BadPoint, Refused as StepRefused}
+use Rattle.reader.specs.declared.step.Stepped.{Stepped}
+use Rattle.reader.specs.declared.place.PlaceAnswer.{PlaceAnswer}
+use Rattle.reader.specs.declared.place.PlaceAnswer.the-variants.{Passed, Found, Refused as PlaceRefused}
+use Rattle.reader.specs.State.{openRaw, startBy, startOf, startNumber, historyOf, firstBit, closedOf, endedOf}
+use Rattle.reader.specs.Step.{answered, scramblerFor, plainOf, frameRight, partLeft, intoBy, movedWith, historiesAfter, heardInput, bySearch, noRoom, stepBy, stepOf, stepInto, writtenBy, stepNumber, stepStream, stepSubcarrier}
+use Rattle.reader.specs.Place.{foundAs, placeBy, placeOf}
+use Rattle.reader.specs.Statements.{InRange, settingsIn, InReach, ClosedRow, RoomRow, PointRow, shownIn, inputIn, CodeRow, WrongBit, FrameRow, StepRefusals, FirstPlace, PlaceIsFirst, RefusedUnchanged, RefusedState, StartRefusals, PlaceTied}
+use Rattle.reader.proofs.StateLaws.{in-range, not-closed}
+
+-- the tests that a row does not apply
+negated : {P : Type 0} (t : Bool) → (t ≡ true) ↔ P → (not t ≡ true) ↔ (P → ⊥)
+negated true h = (λ e. absurd (true-not-false (sym e)), λ n. absurd (n (h .0 refl)))
+negated false h = (λ e p. true-not-false (sym (h .1 p)), λ n. refl)
+
+not-both : {P Q : Type 0} (a b : Bool) → (not a ≡ true) ↔ P → (not b ≡ true) ↔ Q → (not (a && b) ≡ true) ↔ (P ⊎ Q)
+not-both true b p q = (λ e. inr (q .0 e), ⊎-elim (λ x. absurd (true-not-false (sym (p .1 x)))) (λ y. q .1 y))
+not-both false b p q = (λ e. inl (p .0 refl), λ s. refl)
+
+not-some : (k : ℕ) → (not (ltb 0 k) ≡ true) ↔ (k ≡ 0)
+not-some k = (λ e. omega (arith, ltb-false 0 k (flip (ltb 0 k) e)), λ e. back (le-ltb 0 k (omega (arith, e))))
+  where
+    flip : (t : Bool) → not t ≡ true → t ≡ false
+    flip true e = sym e
+    flip false e = refl
+
+    back : {t : Bool} → t ≡ false → not t ≡ true
+    back e = simp e
+
+-- a test of all below a number fails at one of them
+some-fails : (f : ℕ → Bool) (n : ℕ) → not (below f n) ≡ true → FirstWrong f n
+some-fails f n e =
+    ⊎-elim
+    (λ (all : AllBelow f n). absurd (true-not-false (sym e ∙ ap not (T-true (below f n) (below-of f n (λ k l. subst T (sym (all k l)) tt))))))
+    (λ (w : FirstWrong f n). w)
+    (search-below f n)
+
+module _ (s : Settings) (st : Reader) (X : ℕ → ℕ) where
+  abbrev test : ℕ → Bool
+  test d = inputOk (s .length) (planFor s .encoders) (firstBit s (st .symbol) + d) (X d) (plainOf st X d)
+
+  abbrev framing : Bool
+  framing = framed (s .length) (planFor s .encoders) (firstBit s (st .symbol)) (planFor s .dbps) X (plainOf st X)
+
+  wrong-found : not framing ≡ true → WrongBit s st X
+  unfolding framed
+  wrong-found e =
+      let w = some-fails test (planFor s .dbps) e in
+      record {
+        number = w .at;
+        inside = w .below;
+        wrong = λ r. true-not-false (sym (T-true (test (w .at)) (right-ok (s .length) (planFor s .encoders) _ _ _ r)) ∙ w .fails);
+      }
+
+  -- framing is wrong exactly where a bit is
+  framing-wrong : (not framing ≡ true) ↔ WrongBit s st X
+  framing-wrong = (
+    wrong-found,
+    λ w. negated framing (framed-exactly (s .length) (planFor s .encoders) (firstBit s (st .symbol)) (planFor s .dbps) X (plainOf st X)) .1
+        (λ all. w .wrong (all (w .number) (w .inside))),
+  )
+
+  frame-wrong : (not (frameRight s st X) ≡ true) ↔ ((scramblerFor st X ≡ 0) ⊎ WrongBit s st X)
+  unfolding frameRight
+  frame-wrong =
+      not-both (ltb 0 (scramblerFor st X)) framing
+      (not-some (scramblerFor st X)) framing-wrong
+
+-- ---- the rows of a state in range, each with its test
+
+abbrev isAt : Search → Bool
+isAt AllGiven = false
+isAt (At i f) = true
+
+-- the answer's number by the tests of a symbol's code and frame
+code-number : (c f first : Bool) (k : ℕ) (m e : Reader)
+    → stepNumber (cond c (cond f (answered (cond first (First k) Next) m) (answered (StepRefused Frame) e)) (answered (StepRefused Code) e) .answer)
+    ≡ cond (not c) 10 (cond (not f) 11 0)
+code-number true true true k m e = refl
+code-number true true false k m e = refl
+code-number true false first k m e = refl
+code-number false f first k m e = refl
+
+module _ (s : Settings) (st : Reader) (points : List Float) where
+  -- the inputs that the points show
+  abbrev heard : ℕ → ℕ
+  heard d = heardInput s st (shownBit (planFor s) points) d
+
+  abbrev decoded : Bool
+  decoded = decodes (planFor s) (historyOf st) (shownBit (planFor s) points)
+
+  abbrev moved : Reader
+  moved = movedWith s st (historiesAfter s st heard) (scramblerFor st heard) (partLeft s (st .symbol) (st .part) (plainOf st heard))
+
+  search-number : (x : Search) → stepNumber (bySearch x s st points .answer)
+      ≡ cond (isAt x) 9 (cond (not decoded) 10 (cond (not (frameRight s st heard)) 11 0))
+  search-number (At i f) = refl
+  search-number AllGiven = code-number decoded (frameRight s st heard) (eqb (st .symbol) 0) (scramblerFor st heard) moved (endedOf st)
+
+module _ (st : Reader) (points : List Float) (bytes : ℕ) (o : InReach st) where
+  sound : Right (settingsIn st)
+  sound = right (openRaw (st .settings)) (settingsIn st) (o .accepted)
+
+  abbrev search : Search
+  search = searchOf (planFor (settingsIn st)) points (settingsIn st .format) (st .symbol)
+
+  given-at : (i f : ℕ) → i < planFor (settingsIn st) .streams → f < placesOf (planFor (settingsIn st) .width)
+      → (pointGiven (planFor (settingsIn st)) points (settingsIn st .format) (st .symbol) i f ≡ true)
+      ↔ PointByRules (planFor (settingsIn st)) points (settingsIn st .format) (st .symbol) i f
+  given-at i f h l = given-by-rules (planFor (settingsIn st)) (plan-fits (settingsIn st) sound) points (settingsIn st .format) (st .symbol) i f h l
+
+  unfolded-width : placesOf (planFor (settingsIn st) .width) ≡ placesOf (settingsIn st .width)
+  unfolded-width = ap placesOf (planned-width (settingsIn st))
+
+  not-given : (i f : ℕ) → i < planFor (settingsIn st) .streams → f < placesOf (planFor (settingsIn st) .width)
+      → pointGiven (planFor (settingsIn st)) points (settingsIn st .format) (st .symbol) i f ≡ false
+      → PointByRules (planFor (settingsIn st)) points (settingsIn st .format) (st .symbol) i f → ⊥
+  not-given i f h l e r = true-not-false (sym (given-at i f h l .1 r) ∙ e)
+
+  -- 9: the search finds a place exactly where some point is not given
+  point-row : (isAt search ≡ true) ↔ PointRow st points
+  point-row =
+      ⊎-elim
+      (λ (a : AllPass (planFor (settingsIn st)) points (settingsIn st .format) (st .symbol)). (
+        λ e. absurd (true-not-false (sym e ∙ ap isAt (a .all-given))),
+        λ r. absurd (r .not-given (given-at (r .stream) (r .place) (r .stream-in) (rw unfolded-width (r .place-in)) .0
+            (a .passed (r .stream) (r .place) (r .stream-in) (rw unfolded-width (r .place-in))))),
+      ))
+      (λ (w : FirstFailing (planFor (settingsIn st)) points (settingsIn st .format) (st .symbol)). (
+        λ e. record {
+          stream = w .stream;
+          place = w .place;
+          stream-in = w .stream-in;
+          place-in = rw unfolded-width at (w .place-in);
+          not-given = not-given (w .stream) (w .place) (w .stream-in) (w .place-in) (w .fails);
+        },
+        λ r. ap isAt (w .found),
+      ))
+      (search-cases (planFor (settingsIn st)) points (settingsIn st .format) (st .symbol))
+
+  abbrev roomRule : Rule
+  roomRule = record {
+    number = 8;
+    Applies = RoomRow st (length points) bytes;
+    test = noRoom (settingsIn st) (length points) bytes;
+    right = either (ltb (length points) (floatsOf (settingsIn st))) (ltb bytes (settingsIn st .length)) (less (length points) (floatsOf (settingsIn st)))
+        (less bytes (settingsIn st .length));
+  }
+
+  abbrev pointRule : Rule
+  pointRule = record { number = 9; Applies = PointRow st points; test = isAt search; right = point-row }
+
+  abbrev codeRule : Rule
+  codeRule = record {
+    number = 10;
+    Applies = CodeRow st points;
+    test = not (decodes (planFor (settingsIn st)) (historyOf st) (shownIn st points));
+    right = negated (decodes (planFor (settingsIn st)) (historyOf st) (shownIn st points))
+        (code-exactly (planFor (settingsIn st)) (plan-fits (settingsIn st) sound) (historyOf st) (shownIn st points)
+        (λ i r h l. shown-bit (planFor (settingsIn st)) points i r));
+  }
+
+  abbrev frameRule : Rule
+  frameRule = record {
+    number = 11;
+    Applies = FrameRow st points;
+    test = not (frameRight (settingsIn st) st (inputIn st points));
+    right = frame-wrong (settingsIn st) st (inputIn st points);
+  }
+
+  room-number : (r : Bool) (x : Stepped) → stepNumber (cond r (answered (StepRefused Room) st) x .answer) ≡ cond r 8 (stepNumber (x .answer))
+  room-number true x = refl
+  room-number false x = refl
+
+  -- the step of a state in range
+  pub step-open : stepOf st points bytes
+      ≡ cond (noRoom (settingsIn st) (length points) bytes) (answered (StepRefused Room) st) (bySearch search (settingsIn st) st points)
+  step-open =
+      ap (λ (x : Checked). stepBy x st points bytes) (o .accepted)
+      ∙ ap (λ (b : Bool). cond b (answered (StepRefused Closed) st)
+      (cond (noRoom (settingsIn st) (length points) bytes) (answered (StepRefused Room) st) (bySearch search (settingsIn st) st points)))
+      (not-closed (settingsIn st) st (o .in-range))
+
+  number-first : stepNumber (stepOf st points bytes .answer) ≡ firstOf (roomRule ∷ pointRule ∷ codeRule ∷ frameRule ∷ [])
+  number-first =
+      ap (λ (r : Stepped). stepNumber (r .answer)) step-open
+      ∙ room-number (noRoom (settingsIn st) (length points) bytes) (bySearch search (settingsIn st) st points)
+      ∙ ap (cond (noRoom (settingsIn st) (length points) bytes) 8) (search-number (settingsIn st) st points search)
+
+  not-twelve : (a b c d : Bool) → _≡_ {A = ℕ} (cond a 8 (cond b 9 (cond c 10 (cond d 11 0)))) 12 → ⊥
+  not-twelve true b c d e = omega (arith, e)
+  not-twelve false true c d e = omega (arith, e)
+  not-twelve false false true d e = omega (arith, e)
+  not-twelve false false false true e = omega (arith, e)
+  not-twelve false false false false e = omega (arith, e)
+
+  pub open-not-closed : stepNumber (stepOf st points bytes .answer) ≡ 12 → ⊥
+  open-not-closed e =
+      not-twelve (noRoom (settingsIn st) (length points) bytes) (isAt search) (not (decodes (planFor (settingsIn st)) (historyOf st) (shownIn st points)))
+      (not (frameRight (settingsIn st) st (inputIn st points))) (sym number-first ∙ e)
+
+-- a state is in range with its settings accepted, or a step from it is 12 and gives it back
+reach : (st : Reader) (points : List Float) (bytes : ℕ) → InReach st ⊎ (stepOf st points bytes ≡ answered (StepRefused Closed) st)
+reach st points bytes = by-check (checkOf (openRaw (st .settings))) refl
+  where
+    by-state : (s : Settings) → checkOf (openRaw (st .settings)) ≡ Accepted s → (b : Bool) → closedOf s st ≡ b
+        → InReach st ⊎ (stepOf st points bytes ≡ answered (StepRefused Closed) st)
+    by-state s e true c =
+        inr (ap (λ (x : Checked). stepBy x st points bytes) e
+        ∙ ap (λ (b : Bool). cond b (answered (StepRefused Closed) st)
+        (cond (noRoom s (length points) bytes) (answered (StepRefused Room) st) (bySearch (searchOf (planFor s) points (s .format) (st .symbol)) s st points))) c)
+    by-state s e false c =
+        let meant = passed (openRaw (st .settings)) s e .meant in
+        inl (record {
+          accepted = e ∙ ap Accepted (sym meant);
+          in-range = subst (λ (k : Settings). InRange k st) (sym meant) (in-range s st c);
+        })
+
+    by-check : (x : Checked) → checkOf (openRaw (st .settings)) ≡ x → InReach st ⊎ (stepOf st points bytes ≡ answered (StepRefused Closed) st)
+    by-check (Accepted s) e = by-state s e (closedOf s st) refl
+    by-check (Refused r) e = inr (ap (λ (x : Checked). stepBy x st points bytes) e)
+
+-- the step gives each refusal exactly when its row applies and none before it does
+pub step-refusals : StepRefusals
+step-refusals st points bytes = (
+  (
+    λ e o. open-not-closed st points bytes o e,
+    λ n. ⊎-elim (λ (o : InReach st). absurd (n o)) (λ e. ap (λ (r : Stepped). stepNumber (r .answer)) e) (reach st points bytes),
+  ),
+  λ o. given-exactly (stepNumber (stepOf st points bytes .answer))
+      (roomRule st points bytes o ∷ pointRule st points bytes o ∷ codeRule st points bytes o ∷ frameRule st points bytes o ∷ []) tt
+      (number-first st points bytes o),
+)
+
+-- a refused step leaves the payload as it was
+pub refused-step-unchanged : RefusedUnchanged
+refused-step-unchanged st points payload = go (stepOf st points (length payload) .answer)
+  where
+    go : (a : StepAnswer) → (stepNumber a ≡ 0 → ⊥) → intoBy a (writtenBy (checkOf (openRaw (st .settings))) st points payload) payload ≡ payload
+    go (First k) n = absurd (n refl)
+    go Next n = absurd (n refl)
+    go (BadPoint i z) n = refl
+    go (StepRefused r) n = refl
+
+-- what state stands beside each refusal
+abbrev Beside : Reader → Stepped → Type 0
+Beside st r =
+    (stepNumber (r .answer) ≡ 8 → r .state ≡ st) × ((stepNumber (r .answer) ≡ 12 → r .state ≡ st)
+    × ((stepNumber (r .answer) ≡ 9 → r .state ≡ endedOf st) × ((stepNumber (r .answer) ≡ 10 → r .state ≡ endedOf st)
+    × (stepNumber (r .answer) ≡ 11 → r .state ≡ endedOf st))))
+
+beside-code : (st : Reader) (c f first : Bool) (k : ℕ) (m : Reader)
+    → Beside st (cond c (cond f (answered (cond first (First k) Next) m) (answered (StepRefused Frame) (endedOf st))) (answered (StepRefused Code) (endedOf st)))
+beside-code st true true true k m = (λ e. absurd (omega (arith, e)), (λ e. absurd (omega (arith, e)), (λ e. absurd (omega (arith, e)), (λ e. absurd (omega (arith, e)), λ e. absurd (omega (arith, e))))))
+beside-code st true true false k m = (λ e. absurd (omega (arith, e)), (λ e. absurd (omega (arith, e)), (λ e. absurd (omega (arith, e)), (λ e. absurd (omega (arith, e)), λ e. absurd (omega (arith, e))))))
+beside-code st true false first k m = (λ e. absurd (omega (arith, e)), (λ e. absurd (omega (arith, e)), (λ e. refl, (λ e. refl, λ e. refl))))
+beside-code st false f first k m = (λ e. absurd (omega (arith, e)), (λ e. absurd (omega (arith, e)), (λ e. refl, (λ e. refl, λ e. refl))))
+
+beside-search : (st : Reader) (s : Settings) (points : List Float) (x : Search) → Beside st (bySearch x s st points)
+beside-search st s points (At i f) = (λ e. absurd (omega (arith, e)), (λ e. absurd (omega (arith, e)), (λ e. refl, (λ e. refl, λ e. refl))))
+beside-search st s points AllGiven =
+    beside-code st (decoded s st points) (frameRight s st (heard s st points)) (eqb (st .symbol) 0) (scramblerFor st (heard s st points)) (moved s st points)
+
+beside-room : (st : Reader) (r : Bool) (x : Stepped) → Beside st x → Beside st (cond r (answered (StepRefused Room) st) x)
+beside-room st true x b = (λ e. refl, (λ e. refl, (λ e. absurd (omega (arith, e)), (λ e. absurd (omega (arith, e)), λ e. absurd (omega (arith, e))))))
+beside-room st false x b = b
+
+pub refused-step-state : RefusedState
+refused-step-state st points bytes =
+    ⊎-elim
+    (λ (o : InReach st). subst (Beside st) (sym (step-open st points bytes o))
+    (beside-room st (noRoom (settingsIn st) (length points) bytes) (bySearch (search st points bytes o) (settingsIn st) st points)
+    (beside-search st (settingsIn st) points (search st points bytes o))))
+    (λ e. subst (Beside st) (sym e) (λ e. refl, (λ e. refl, (λ e. absurd (omega (arith, e)), (λ e. absurd (omega (arith, e)), λ e. absurd (omega (arith, e)))))))
+    (reach st points bytes)
+
+-- the place that 9 returns is the first of a point that is not given
+nine-found : (st : Reader) (s : Settings) (points : List Float) (x : Search) (i : ℕ) (z : ℤ) → bySearch x s st points .answer ≡ BadPoint i z
+    → (x ≡ AllGiven → ⊥)
+nine-found st s points x i z e g =
+    not-nine (decoded s st points) (frameRight s st (heard s st points))
+    (sym (search-number s st points AllGiven) ∙ ap (λ (y : Search). stepNumber (bySearch y s st points .answer)) (sym g) ∙ ap stepNumber e)
+  where
+    not-nine : (c f : Bool) → _≡_ {A = ℕ} (cond (not c) 10 (cond (not f) 11 0)) 9 → ⊥
+    not-nine true true h = omega (arith, h)
+    not-nine true false h = omega (arith, h)
+    not-nine false f h = omega (arith, h)
+
+room-not-nine : (st : Reader) (r : Bool) (x : Stepped) (i : ℕ) (z : ℤ) → cond r (answered (StepRefused Room) st) x .answer ≡ BadPoint i z → x .answer ≡ BadPoint i z
+room-not-nine st true x i z e = absurd (let n : _≡_ {A = ℕ} 8 9 = ap stepNumber e in omega arith)
+room-not-nine st false x i z e = e
+
+pub place-is-first : PlaceIsFirst
+place-is-first st points bytes i z e = ⊎-elim opened closed (reach st points bytes)
+  where
+    closed : stepOf st points bytes ≡ answered (StepRefused Closed) st → FirstPlace st points i z
+    closed h = absurd (let n : _≡_ {A = ℕ} 12 9 = ap (λ (r : Stepped). stepNumber (r .answer)) (sym h) ∙ ap stepNumber e in omega arith)
+
+    opened : InReach st → FirstPlace st points i z
+    opened o =
+        let s = settingsIn st in
+        let p = planFor s in
+        let f : bySearch (searchOf p points (s .format) (st .symbol)) s st points .answer ≡ BadPoint i z =
+        room-not-nine st (noRoom s (length points) bytes) _ i z (ap (λ (r : Stepped). r .answer) (sym (step-open st points bytes o)) ∙ e) in
+        ⊎-elim
+        (λ (a : AllPass p points (s .format) (st .symbol)). absurd (nine-found st s points _ i z f (a .all-given)))
+        (λ (w : FirstFailing p points (s .format) (st .symbol)).
+        let g : BadPoint (w .stream) (subcarrierAt (s .width) (w .place)) ≡ BadPoint i z = ap (λ (x : Search). bySearch x s st points .answer) (sym (w .found)) ∙ f in
+        let here : w .stream ≡ i = ap stepStream g in
+        let wide = unfolded-width st points bytes o in
+        record {
+          place = w .place;
+          stream-in = subst (λ (j : ℕ). j < p .streams) here (w .stream-in);
+          place-in = rw wide at (w .place-in);
+          subcarrier = sym (ap stepSubcarrier g);
+          not-given = subst (λ (j : ℕ). PointByRules p points (s .format) (st .symbol) j (w .place) → ⊥) here
+              (not-given st points bytes o (w .stream) (w .place) (w .stream-in) (w .place-in) (w .fails));
+          streams-before = λ j k l m. let l′ : j < w .stream = omega (arith, l, here) in
+              given-at st points bytes o j k (omega (arith, l′, w .stream-in)) (rw wide m) .0 (w .streams-before j k l′ (rw wide m));
+          places-before = λ k l. subst (λ (j : ℕ). PointByRules p points (s .format) (st .symbol) j k) here
+              (given-at st points bytes o (w .stream) k (w .stream-in) (omega (arith, l, w .place-in)) .0 (w .places-before k l));
+        })
+        (search-cases p points (s .format) (st .symbol))
+
+-- ---- the start
+
+-- its number is the settings'
+start-number : (x : Checked) (o : OpenSettings) → startNumber (startBy x o .answer) ≡ checkedNumber x
+start-number (Accepted s) o = refl
+start-number (Refused r) o = refl
+
+start-closed : (x : Checked) (o : OpenSettings) → (startNumber (startBy x o .answer) ≡ 0 → ⊥) → ClosedRow (startBy x o .state)
+start-closed (Accepted s) o n = absurd (n refl)
+start-closed (Refused r) o n = λ (i : InReach (startBy (Refused r) o .state)). true-not-false (i .in-range .going)
+
+pub start-refusals : StartRefusals
+start-refusals o =
+    let n = startNumber (startOf o .answer) in
+    let rows : SettingsRefusals (openRaw o) n = subst (SettingsRefusals (openRaw o)) (sym (start-number (checkOf (openRaw o)) o)) (settings-refusals (openRaw o)) in (
+      rows,
+      (
+        λ e. ⊎-elim (λ (z : _≡_ {A = ℕ} 1 0). omega (arith, z)) (λ (l : 127 < 1). omega (arith, l)) (rows .1 .1 .1 .1 .0 .0 e .0),
+        start-closed (checkOf (openRaw o)) o,
+      ),
+    )
+
+-- ---- the place call
+
+abbrev placeStream : PlaceAnswer → ℕ
+placeStream Passed = 0
+placeStream (Found i z) = i
+placeStream (PlaceRefused r) = 0
+
+abbrev placeSubcarrier : PlaceAnswer → ℤ
+placeSubcarrier Passed = pos 0
+placeSubcarrier (Found i z) = z
+placeSubcarrier (PlaceRefused r) = pos 0
+
+abbrev placeCase : PlaceAnswer → ℕ
+placeCase Passed = 0
+placeCase (Found i z) = 1
+placeCase (PlaceRefused r) = 2
+
+tied-search : (st : Reader) (s : Settings) (points : List Float) (x : Search) (i : ℕ) (z : ℤ)
+    → (bySearch x s st points .answer ≡ BadPoint i z) ↔ (foundAs x s ≡ Found i z)
+tied-search st s points (At j f) i z =
+    (λ e. ap₂ Found (ap stepStream e) (ap stepSubcarrier e), λ e. ap₂ BadPoint (ap placeStream e) (ap placeSubcarrier e))
+tied-search st s points AllGiven i z = (
+  λ e. absurd (nine-found st s points AllGiven i z e refl),
+  λ e. absurd (let n : _≡_ {A = ℕ} 0 1 = ap placeCase e in omega arith),
+)
+
+tied-room : (st : Reader) (small : Bool) (r : Stepped) (a : PlaceAnswer) (i : ℕ) (z : ℤ) → (r .answer ≡ BadPoint i z) ↔ (a ≡ Found i z)
+    → (cond small (answered (StepRefused Room) st) r .answer ≡ BadPoint i z) ↔ (cond small (PlaceRefused Room) a ≡ Found i z)
+tied-room st true r a i z h = (
+  λ e. absurd (let n : _≡_ {A = ℕ} 8 9 = ap stepNumber e in omega arith),
+  λ e. absurd (let n : _≡_ {A = ℕ} 2 1 = ap placeCase e in omega arith),
+)
+tied-room st false r a i z h = h
+
+pub place-tied : PlaceTied
+place-tied st points bytes o enough i z =
+    let s = settingsIn st in
+    let x = searchOf (planFor s) points (s .format) (st .symbol) in
+    let small : noRoom s (length points) bytes ≡ ltb (length points) (floatsOf s) = last (ltb (length points) (floatsOf s)) (le-ltb bytes (s .length) enough) in
+    let step : stepOf st points bytes ≡ cond (ltb (length points) (floatsOf s)) (answered (StepRefused Room) st) (bySearch x s st points) =
+    step-open st points bytes o ∙ ap (λ (b : Bool). cond b (answered (StepRefused Room) st) (bySearch x s st points)) small in
+    let place : placeOf st points ≡ cond (ltb (length points) (floatsOf s)) (PlaceRefused Room) (foundAs x s) =
+    ap (λ (c : Checked). placeBy c st points) (o .accepted)
+    ∙ ap (λ (b : Bool). cond b (PlaceRefused Closed) (cond (ltb (length points) (floatsOf s)) (PlaceRefused Room) (foundAs x s))) (not-closed s st (o .in-range)) in
+    let h = tied-room st (ltb (length points) (floatsOf s)) (bySearch x s st points) (foundAs x s) i z (tied-search st s points x i z) in
+    (λ e. place ∙ h .0 (ap (λ (r : Stepped). r .answer) (sym step) ∙ e), λ e. ap (λ (r : Stepped). r .answer) step ∙ h .1 (sym place ∙ e))
+  where
+    last : (a : Bool) {b : Bool} → b ≡ false → (a || b) ≡ a
+    last true e = refl
+    last false e = e
