@@ -3,4 +3,3 @@ pub mod LabelLaws
 pub mod PointLaws
 pub mod UseLaws
 pub mod SearchLaws
-pub mod GivenLaws

@@ -1,3 +1,2 @@
 pub mod Demapped
 pub mod Asked
-pub mod Statements

@@ -37,9 +37,8 @@ use Rattle.reader.specs.declared.step.StepAnswer.the-variants.{First, Ne
 use Rattle.reader.specs.declared.step.Stepped.{Stepped}
 use Rattle.reader.specs.declared.place.PlaceAnswer.{PlaceAnswer}
 use Rattle.reader.specs.declared.place.PlaceAnswer.the-variants.{Passed, Found, Refused as PlaceRefused}
-use Rattle.reader.specs.State.{openRaw, historyOf, closedOf, endedOf}
+use Rattle.reader.specs.State.{InRange, openRaw, historyOf, closedOf, endedOf}
 use Rattle.reader.specs.Step.{answered, scramblerFor, plainOf, frameRight, partLeft, bytesInto, intoBy, movedWith, historiesAfter, acceptedWith, byFrame, heardInput, byCode, bySearch, noRoom, stepBy, stepOf, writtenBy, stepInto}
-use Rattle.reader.specs.Statements.{InRange}
 use Rattle.reader.specs.Place.{foundAs, placeBy, placeOf}
 use Rattle.reader.specs.Asked.{bitsOf, HeardInputs, FrameAsked, LabelsAsked, PointsAsked}
 use Rattle.chain.proofs.DecodeLaws.{decoded-bit}

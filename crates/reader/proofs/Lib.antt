@@ -1,4 +1,3 @@
 pub mod StateLaws
 pub mod StepLaws
 pub mod HearLaws
-pub mod Refusals

@@ -21,8 +21,7 @@ use Rattle.settings.proofs.SettingsLaws.{right, plan-fits, symbols-few}
 use Rattle.frame.proofs.Refusals.{at-most}
 use Rattle.deframer.specs.Deframed.{payloadBefore}
 use Rattle.reader.specs.declared.state.Reader.{Reader}
-use Rattle.reader.specs.State.{openRaw, historyOf, firstBit, badScrambler, badPart, closedOf}
-use Rattle.reader.specs.Statements.{InRange}
+use Rattle.reader.specs.State.{InRange, openRaw, historyOf, firstBit, badScrambler, badPart, closedOf}
 
 abbrev powerClaim : Claim
 powerClaim = upTo 8 λ r. getD (1 ∷ 2 ∷ 4 ∷ 8 ∷ 16 ∷ 32 ∷ 64 ∷ 128 ∷ []) r 0 is 2 ^ r

@@ -12,9 +12,8 @@ use Rattle.frame.specs.Points.{floatsOf}
 use Rattle.deframer.specs.Deframed.{framed, PayloadAsked}
 use Rattle.reader.specs.declared.state.Reader.{Reader}
 use Rattle.reader.specs.declared.step.Stepped.{Stepped}
-use Rattle.reader.specs.State.{firstBit}
+use Rattle.reader.specs.State.{InRange, firstBit}
 use Rattle.reader.specs.Step.{bytesInto, intoBy, byFrame}
-use Rattle.reader.specs.Statements.{InRange}
 
 -- bits in a list, by their number in the symbol
 abbrev pub bitsOf : (bits : List ℕ) (d : ℕ) → ℕ

@@ -1,5 +1,4 @@
 pub mod State
 pub mod Step
 pub mod Place
-pub mod Statements
 pub mod Asked

@@ -1,7 +1,8 @@
 -- The strict reader's state, its ranges and its start (document 01, 'Numbered refusals': "A state in range has ..").
+use mathlib.Core.Path.{_≡_}
 use mathlib.Core.Bool.{Bool, true, false, cond, not, _||_, _&&_}
 use mathlib.Core.List.{List, [], _∷_}
-use Prim.Native.Nat.{ℕ, _*_, _%_, _^_}
+use Prim.Native.Nat.{ℕ, _*_, _%_, _^_, _<_}
 use lib.Dec.{eqb, ltb, leb}
 use lib.ListN.{getD}
 use Rattle.settings.specs.declared.settings.Refusal.{Refusal}
@@ -81,3 +82,14 @@ endedOf st = record {
   scrambler = st .scrambler;
   part = st .part;
 }
+
+-- "A state in range has accepted settings, a symbol number below the count, histories below 64, from symbol 1 on a scrambler of 1 to 127, and a part of a
+-- byte as many bits long as the payload bits before that symbol leave modulo 8, its other bits zero"; and it is not ended
+pub record InRange (s : Settings) (st : Reader) : Type 0 where
+  pub going : st .ended ≡ false
+  pub below-count : st .symbol < symbolsOf s
+  pub first-history : historyOf st 0 < 64
+  pub second-history : historyOf st 1 < 64
+  pub scrambler-some : (st .symbol ≡ 0 → ⊥) → 0 < st .scrambler
+  pub scrambler-most : (st .symbol ≡ 0 → ⊥) → st .scrambler < 128
+  pub part-fits : st .part < 2 ^ (payloadBefore (s .length) (firstBit s (st .symbol)) % 8)

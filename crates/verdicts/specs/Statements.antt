@@ -18,24 +18,13 @@ use Rattle.demapper.specs.Demapped.{shownBit, PointByRules}
 use Rattle.decoder.specs.Statements.{SomeInputs}
 use Rattle.deframer.specs.Deframed.{payloadBefore}
 use Rattle.deframer.specs.Statements.{RightBit}
 use Rattle.reader.specs.declared.state.OpenSettings.{OpenSettings}
 use Rattle.reader.specs.declared.state.Reader.{Reader}
 use Rattle.reader.specs.declared.step.StepAnswer.the-variants.{BadPoint}
 use Rattle.reader.specs.declared.place.PlaceAnswer.the-variants.{Found}
-use Rattle.reader.specs.State.{openRaw, startOf, startNumber, historyOf, firstBit, endedOf}
+use Rattle.reader.specs.State.{InRange, openRaw, startOf, startNumber, historyOf, firstBit, endedOf}
 use Rattle.reader.specs.Step.{scramblerFor, plainOf, heardInput, stepOf, stepInto, stepNumber}
 use Rattle.reader.specs.Place.{placeOf}
-
--- "A state in range has accepted settings, a symbol number below the count, histories below 64, from symbol 1 on a scrambler of 1 to 127, and a part of a
--- byte as many bits long as the payload bits before that symbol leave modulo 8, its other bits zero"; and it is not ended
-pub record InRange (s : Settings) (st : Reader) : Type 0 where
-  pub going : st .ended ≡ false
-  pub below-count : st .symbol < symbolsOf s
-  pub first-history : historyOf st 0 < 64
-  pub second-history : historyOf st 1 < 64
-  pub scrambler-some : (st .symbol ≡ 0 → ⊥) → 0 < st .scrambler
-  pub scrambler-most : (st .symbol ≡ 0 → ⊥) → st .scrambler < 128
-  pub part-fits : st .part < 2 ^ (payloadBefore (s .length) (firstBit s (st .symbol)) % 8)
 
 -- ---- refusals: each "given exactly when" its row applies and none tested before it does; 0 where none applies
 
