@@ -7,6 +7,15 @@ use conversions::refused;
 use frame::points;
 use frame::points::PointsAnswer;
 use query::query::QueryAnswer;
+use reader::place;
+use reader::state;
+use reader::state::StartAnswer;
+use reader::step;
+use reader_numbers::open_settings;
+use reader_numbers::place_number;
+use reader_numbers::reader_of;
+use reader_numbers::state_number;
+use reader_numbers::stepped_number;
 use settings::settings::Refusal;
 use settings::symbols;
 use settings::symbols::Count;
@@ -20,6 +29,9 @@ ghost use Rattle.settings.specs.Symbols.{countOf};
 ghost use Rattle.signal.specs.HtSig.{writtenOf, writtenInto, readOf};
 ghost use Rattle.frame.specs.Points.{pointsOf, pointsInto};
 ghost use Rattle.query.specs.Query.{queryOf};
+ghost use lib.IntN.{pos};
+ghost use Rattle.reader.specs.State.{startOf};
+ghost use Rattle.reader_numbers.specs.Numbers.{openOf, startResult, stepResult, stepResultInto, placeResult};
 ghost use Rattle.conversions.specs.Results.{rawOf, countResult, writtenResult, readResult, pointsResult, carrierResult, carrierInto};
 
 // The symbol count.
@@ -176,4 +188,106 @@ pub extern "C" fn ht_carrier(
         return refused(Refusal::Room);
     }
     put_carried(carried, out)
+}
+
+// The reader's state before symbol 0.
+#[no_mangle]
+pub extern "C" fn ht_reader_start(
+    width: u32,
+    mcs: u32,
+    format: u32,
+    length: u32,
+    smoothing: u32,
+    not_sounding: u32,
+    aggregation: u32,
+    short_guard: u32,
+) -> i64
+    ensures { λ r. ⌜ r ≡ startResult (startOf (openOf width mcs format length smoothing «not_sounding» aggregation «short_guard»)) ⌝ }
+{
+    let open = open_settings(
+        width,
+        mcs,
+        format,
+        length,
+        smoothing,
+        not_sounding,
+        aggregation,
+        short_guard,
+    );
+    let started = state::start(open);
+    let answer = started.answer;
+    let begun = started.state;
+    match answer {
+        StartAnswer::Ready => state_number(begun) as i64,
+        StartAnswer::Refused(r) => refused(r),
+    }
+}
+
+// One symbol read: the refusal's number, the seed and the state in one number.
+#[no_mangle]
+pub extern "C" fn ht_reader_step(
+    width: u32,
+    mcs: u32,
+    format: u32,
+    length: u32,
+    smoothing: u32,
+    not_sounding: u32,
+    aggregation: u32,
+    short_guard: u32,
+    state: u64,
+    points: &[f32],
+    payload: &mut [u8],
+) -> i64
+    ensures { λ r. ⌜ r ≡ pos (stepResult (openOf width mcs format length smoothing «not_sounding» aggregation «short_guard») state (now (points .entry)) (lengthOf (now (payload .entry)))) ⌝ }
+    ensures { λ _. ⌜ now (payload .exit) ≡ stepResultInto (openOf width mcs format length smoothing «not_sounding» aggregation «short_guard») state (now (points .entry)) (now (payload .entry)) ⌝ }
+{
+    let open = open_settings(
+        width,
+        mcs,
+        format,
+        length,
+        smoothing,
+        not_sounding,
+        aggregation,
+        short_guard,
+    );
+    let no_state = state >= 562949953421312;
+    if no_state {
+        return (12 + 4096 * (state % 562949953421312)) as i64;
+    }
+    let stepped = step::step(reader_of(open, state), points, payload);
+    stepped_number(stepped) as i64
+}
+
+// The place of the first point that a step from this state refuses.
+#[no_mangle]
+pub extern "C" fn ht_reader_place(
+    width: u32,
+    mcs: u32,
+    format: u32,
+    length: u32,
+    smoothing: u32,
+    not_sounding: u32,
+    aggregation: u32,
+    short_guard: u32,
+    state: u64,
+    points: &[f32],
+) -> i64
+    ensures { λ r. ⌜ r ≡ placeResult (openOf width mcs format length smoothing «not_sounding» aggregation «short_guard») state (now (points .entry)) ⌝ }
+{
+    let open = open_settings(
+        width,
+        mcs,
+        format,
+        length,
+        smoothing,
+        not_sounding,
+        aggregation,
+        short_guard,
+    );
+    let no_state = state >= 562949953421312;
+    if no_state {
+        return refused(Refusal::Closed);
+    }
+    place_number(place::place(reader_of(open, state), points))
 }

@@ -3,9 +3,9 @@ use mathlib.Core.Path.{_≡_, _∙_, refl, sym, ap, ap₂, subst}
 use mathlib.Core.Bool.{Bool, true, false, cond, not, _||_}
 use mathlib.Core.List.{List, [], _∷_}
 use Prim.Native.Nat.{ℕ, zero, suc, _+_, _*_, _/_, _%_, _<_, _≤_}
-use native.Mathlib.Nat.{mul-comm, mod-lt}
+use native.Mathlib.Nat.{mul-comm, mod-lt, div-lt-iff-lt-mul}
 use native.Mathlib.Omega.{arith}
-use borrow.Author.Tests.{ltb-false}
+use borrow.Author.Tests.{ltb-true, ltb-false}
 use lib.Dec.{T, eqb, ltb, ltb→lt}
 use lib.IntN.{ℤ}
 use lib.Ieee.{Float}
@@ -24,6 +24,7 @@ use Rattle.settings.specs.declared.settings.Checked.the-variants.{Accepted, Ref
 use Rattle.settings.specs.Settings.{checkOf, planFor, Right}
 use Rattle.settings.proofs.SettingsLaws.{plan-fits, planned-width}
 use Rattle.subcarriers.specs.Subcarriers.{placesOf, subcarrierAt}
+use Rattle.pilots.proofs.PilotLaws.{streams-range}
 use Rattle.frame.specs.Points.{floatsOf}
 use Rattle.demapper.specs.declared.search.Search.{Search}
 use Rattle.demapper.specs.declared.search.Search.the-variants.{AllGiven, At}
@@ -275,3 +276,28 @@ module _ (s : Settings) (floats : ℕ) (counted : floats ≡ floatsOf s) where
         whole-points = omega (arith, ltb-false (length points) floats (f .0), counted);
         whole-payload = ltb-false (length payload) (s .length) (f .1);
       }
+
+abbrev streamIn : Search → ℕ
+streamIn AllGiven = 0
+streamIn (At i f) = i
+
+found-stream : (t : Bool) (streams places k : ℕ) → 0 < streams → 0 < places → (t ≡ true → k < streams * places)
+    → streamIn (cond t (At (k / places) (k % places)) AllGiven) < streams
+found-stream true streams places k some wide l = div-lt-iff-lt-mul wide .1 (l refl)
+found-stream false streams places k some wide l = some
+
+search-stream : (p : Plan) (points : List Float) (format n : ℕ) → 0 < p .streams → streamIn (searchOf p points format n) < p .streams
+unfolding searchOf
+search-stream p points format n some =
+    let places = placesOf (p .width) in
+    let total = p .streams * places in
+    let k = firstFrom (λ k. not (pointGiven p points format n (k / places) (k % places))) 0 total in
+    found-stream (ltb k total) (p .streams) places k some (places-some (p .width)) (λ e. ltb-true k total e)
+
+-- a stream that the search found is one of the plan's, and few
+pub stream-few : (s : Settings) → Right s → (points : List Float) (n i f : ℕ) (found : Search) → found ≡ At i f
+    → found ≡ searchOf (planFor s) points (s .format) n → i < 5
+stream-few s right points n i f found e g =
+    let fits = plan-fits s right in
+    let range = streams-range (planFor s .streams) (fits .streams) in
+    omega (arith, subst (λ (k : ℕ). k < planFor s .streams) (sym (ap streamIn (sym e ∙ g))) (search-stream (planFor s) points (s .format) n (range .0)), range .1)

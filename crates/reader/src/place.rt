@@ -16,7 +16,7 @@ ghost use Rattle.reader.specs.Place.{placeOf};
 // Every point passes, or the first that does not: its stream and its subcarrier's own number.
 pub enum PlaceAnswer {
     Passed,
-    Found(u64, i32),
+    Found(u8, i32),
     Refused(Refusal),
 }
 
@@ -47,6 +47,6 @@ pub fn place(reader: Reader, points: &[f32]) -> PlaceAnswer
     );
     match found {
         Search::AllGiven => PlaceAnswer::Passed,
-        Search::At(i, f) => PlaceAnswer::Found(i as u64, subcarrier_of(s.width as usize, f)),
+        Search::At(i, f) => PlaceAnswer::Found(i as u8, subcarrier_of(s.width as usize, f)),
     }
 }

@@ -32,9 +32,9 @@ ghost use Rattle.reader.specs.Asked.{bitsOf, framedIn, ScramblerAsked, M
 
 // The first symbol with the seed, a later one, the first point that fails by its stream and subcarrier, or a refusal.
 pub enum StepAnswer {
-    First(u64),
+    First(u8),
     Next,
-    BadPoint(u64, i32),
+    BadPoint(u8, i32),
     Refused(Refusal),
 }
 
@@ -60,7 +60,7 @@ fn accepted_as(reader: Reader, scrambler: u8) -> StepAnswer
 {
     let first = reader.symbol == 0;
     if first {
-        return StepAnswer::First(scrambler as u64);
+        return StepAnswer::First(scrambler);
     }
     StepAnswer::Next
 }
@@ -183,7 +183,7 @@ fn hear_points(reader: Reader, s: Settings, points: &[f32], payload: &mut [u8]) 
     if let Search::At(i, f) = found {
         let closed = ended(reader);
         return Stepped {
-            answer: StepAnswer::BadPoint(i as u64, subcarrier_of(s.width as usize, f)),
+            answer: StepAnswer::BadPoint(i as u8, subcarrier_of(s.width as usize, f)),
             state: closed,
         };
     }

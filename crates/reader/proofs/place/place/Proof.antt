@@ -3,7 +3,7 @@ use mir.Val.{toZ, ofZ}
 use mathlib.Core.Path.{_≡_, _∙_, refl, sym, ap, subst}
 use native.Mathlib.Omega.{arith}
 use denote.Ref.{now}
-use Rattle.reader.proofs.HearLaws.{place-as, place-by, points-asked, search-by, place-few}
+use Rattle.reader.proofs.HearLaws.{place-as, place-by, points-asked, search-by, place-few, stream-few}
 use Rattle.reader.proofs.StateLaws.{open-right, in-range}
 use mathlib.Core.Bool.{Bool, true, false}
 use borrow.Author.Tests.{ltb-false}
@@ -84,6 +84,17 @@ enum-told-2 c = search needs
 enum-known-found : tie.Need-enum-known-found
 enum-known-found c = search needs
 
+cast-t23 : tie.Need-cast-t23
+cast-t23 c =
+    let k = c .before .before .before .before .before .before .before .before .before .before .before in
+    let a = c .before .before .before .before .before .before .before .before .before .before .before .before .before .before .before .before .before .before in
+    let s = k .before .checked .given .0 .0 in
+    omega (
+      arith,
+      stream-few s (open-right (a .args .reader) s (settings k)) (now (a .args .points)) _ _ _ _ (c .before .found .given .1)
+          (search-by s (a .args .reader) (c .before .before .before .before .before .plan-of .result) (c .before .before .before .before .before .plan-of .ensures) (now (a .args .points)) _ (c .before .before .before .before .symbol-bits .ensures .0)),
+    )
+
 subcarrier-of-requires : tie.Need-subcarrier-of-requires
 subcarrier-of-requires c κs =
     let k = c .before .before .before .before .before .before .before .before .before .before .before in
@@ -126,6 +137,7 @@ place-spec =
     symbol-bits-requires
     enum-told-2
     enum-known-found
+    cast-t23
     subcarrier-of-requires
     returns-4
     returns-5)

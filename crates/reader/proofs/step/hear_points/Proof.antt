@@ -1,4 +1,4 @@
-use Rattle.reader.proofs.HearLaws.{place-few}
+use Rattle.reader.proofs.HearLaws.{place-few, stream-few}
 use mathlib.Core.Path.{_≡_, _∙_, refl, sym, ap, subst}
 use native.Mathlib.Omega.{arith}
 use denote.Ref.{now}
@@ -23,6 +23,16 @@ enum-known-found c = search needs
 
 ended-requires : tie.Need-ended-requires
 ended-requires c κs = search needs
+
+cast-t15 : tie.Need-cast-t15
+cast-t15 c =
+    let k = c .before .before .before .before .before in
+    let a = c .before .before .before .before .before .before .before .before .before .before in
+    omega (
+      arith,
+      stream-few (a .args .s) (a .pre .right) (now (a .args .points)) _ _ _ _ (c .before .before .found .given .1)
+          (search-by (a .args .s) (a .args .reader) (k .before .plan-of .result) (k .before .plan-of .ensures) (now (a .args .points)) _ (k .symbol-bits .ensures .0)),
+    )
 
 subcarrier-of-requires : tie.Need-subcarrier-of-requires
 subcarrier-of-requires c κs =
@@ -70,6 +80,7 @@ hear-points-spec =
     symbol-bits-requires
     enum-known-found
     ended-requires
+    cast-t15
     subcarrier-of-requires
     returns
     enum-told

@@ -1,0 +1,115 @@
+// The reader's settings, states and answers as the numbers of the C calls.
+use conversions::refused;
+use reader::place::PlaceAnswer;
+use reader::state::OpenSettings;
+use reader::state::Reader;
+use reader::step::StepAnswer;
+use reader::step::Stepped;
+use settings::settings::number;
+use signal::ht_sig::one;
+ghost use mathlib.Core.Path.{_≡_};
+ghost use Prim.Native.Nat.{_<_};
+ghost use Rattle.reader.specs.Step.{stepNumber, stepSeed};
+ghost use Rattle.reader_numbers.specs.Numbers.{openOf, stateNumber, readerOf, steppedNumber, placedResult};
+
+// The settings of a call: a flag is off at 0 and on at any other number.
+pub fn open_settings(
+    width: u32,
+    mcs: u32,
+    format: u32,
+    length: u32,
+    smoothing: u32,
+    not_sounding: u32,
+    aggregation: u32,
+    short_guard: u32,
+) -> OpenSettings
+    ensures { λ r. ⌜ r ≡ openOf width mcs format length smoothing «not_sounding» aggregation «short_guard» ⌝ }
+{
+    OpenSettings {
+        width: width as u64,
+        mcs: mcs as u64,
+        format: format as u64,
+        length: length as u64,
+        smoothing: smoothing != 0,
+        not_sounding: not_sounding != 0,
+        aggregation: aggregation != 0,
+        short_guard: short_guard != 0,
+    }
+}
+
+fn wide(x: u8) -> u64
+    ensures { λ r. ⌜ (r ≡ x) × (r < 256) ⌝ }
+{
+    x as u64
+}
+
+// A state as a number.
+pub fn state_number(reader: Reader) -> u64
+    requires { ⌜ reader .symbol < 65536 ⌝ }
+    ensures { λ r. ⌜ (r ≡ stateNumber reader) × (r < 562949953421312) ⌝ }
+{
+    let first = wide(reader.histories[0]);
+    let second = wide(reader.histories[1]);
+    let low = reader.symbol + 65536 * first + 16777216 * second;
+    low
+        + 4294967296 * wide(reader.scrambler)
+        + 1099511627776 * wide(reader.part)
+        + 281474976710656 * one(reader.ended)
+}
+
+// The state that a number is.
+pub fn reader_of(settings: OpenSettings, state: u64) -> Reader
+    ensures { λ r. ⌜ r ≡ readerOf settings state ⌝ }
+{
+    Reader {
+        settings,
+        symbol: state % 65536,
+        ended: state / 281474976710656 % 2 == 1,
+        histories: [(state / 65536 % 256) as u8, (state / 16777216 % 256) as u8],
+        scrambler: (state / 4294967296 % 256) as u8,
+        part: (state / 1099511627776 % 256) as u8,
+    }
+}
+
+fn answer_number(answer: StepAnswer) -> u64
+    ensures { λ r. ⌜ (r ≡ stepNumber answer) × (r < 16) ⌝ }
+{
+    match answer {
+        StepAnswer::First(_) => 0,
+        StepAnswer::Next => 0,
+        StepAnswer::BadPoint(_, _) => 9,
+        StepAnswer::Refused(r) => number(r),
+    }
+}
+
+fn answer_seed(answer: StepAnswer) -> u64
+    ensures { λ r. ⌜ (r ≡ stepSeed answer) × (r < 256) ⌝ }
+{
+    match answer {
+        StepAnswer::First(seed) => wide(seed),
+        StepAnswer::Next => 0,
+        StepAnswer::BadPoint(_, _) => 0,
+        StepAnswer::Refused(_) => 0,
+    }
+}
+
+// What a step gives back, as one number.
+pub fn stepped_number(stepped: Stepped) -> u64
+    requires { ⌜ stepped .state .symbol < 65536 ⌝ }
+    ensures { λ r. ⌜ (r ≡ steppedNumber stepped) × (r < 2305843009213693952) ⌝ }
+{
+    let answer = stepped.answer;
+    let state = stepped.state;
+    answer_number(answer) + 32 * answer_seed(answer) + 4096 * state_number(state)
+}
+
+// The place of a point, or the refusal's number negated.
+pub fn place_number(answer: PlaceAnswer) -> i64
+    ensures { λ r. ⌜ r ≡ placedResult answer ⌝ }
+{
+    match answer {
+        PlaceAnswer::Passed => 65535,
+        PlaceAnswer::Found(i, z) => 256 * (i as i64) + ((z as i64) + 128),
+        PlaceAnswer::Refused(r) => refused(r),
+    }
+}
