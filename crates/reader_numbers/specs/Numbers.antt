@@ -7,6 +7,7 @@ use lib.ListN.{length, getD}
 use lib.IntN.{ℤ, pos, _+ℤ_}
 use lib.Ieee.{Float}
 use Rattle.settings.specs.declared.settings.Refusal.the-variants.{Closed}
+use Rattle.subcarriers.specs.Subcarriers.{Inside}
 use Rattle.signal.specs.HtSig.{oneIf}
 use Rattle.reader.specs.declared.state.OpenSettings.{OpenSettings}
 use Rattle.reader.specs.declared.state.Reader.{Reader}
@@ -79,3 +80,9 @@ placedResult (PlaceRefused r) = refusedResult r
 
 abbrev pub placeResult : OpenSettings → (state : ℕ) → List Float → ℤ
 placeResult o state points = cond (leb 562949953421312 state) (refusedResult Closed) (placedResult (placeOf (readerOf o state) points))
+
+-- the place of an answer is a subcarrier of the wider channel
+abbrev pub PlaceRight : PlaceAnswer → Type 0
+PlaceRight Passed = Unit {0}
+PlaceRight (Found i z) = Inside 40 z
+PlaceRight (PlaceRefused r) = Unit {0}

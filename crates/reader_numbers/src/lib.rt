@@ -7,10 +7,13 @@ use reader::step::StepAnswer;
 use reader::step::Stepped;
 use settings::settings::number;
 use signal::ht_sig::one;
+use subcarriers::layout::index;
 ghost use mathlib.Core.Path.{_≡_};
-ghost use Prim.Native.Nat.{_<_};
+ghost use Prim.Native.Nat.{_*_, _<_};
+ghost use lib.IntN.{pos, _+ℤ_};
+ghost use Rattle.subcarriers.specs.Subcarriers.{Inside};
 ghost use Rattle.reader.specs.Step.{stepNumber, stepSeed};
-ghost use Rattle.reader_numbers.specs.Numbers.{openOf, stateNumber, readerOf, steppedNumber, placedResult};
+ghost use Rattle.reader_numbers.specs.Numbers.{openOf, stateNumber, readerOf, steppedNumber, placedResult, PlaceRight};
 
 // The settings of a call: a flag is off at 0 and on at any other number.
 pub fn open_settings(
@@ -96,20 +99,29 @@ fn answer_seed(answer: StepAnswer) -> u64
 // What a step gives back, as one number.
 pub fn stepped_number(stepped: Stepped) -> u64
     requires { ⌜ stepped .state .symbol < 65536 ⌝ }
-    ensures { λ r. ⌜ (r ≡ steppedNumber stepped) × (r < 2305843009213693952) ⌝ }
+    ensures { λ r. ⌜ (r ≡ steppedNumber stepped) × (r < 4611686018427387904) ⌝ }
 {
     let answer = stepped.answer;
     let state = stepped.state;
     answer_number(answer) + 32 * answer_seed(answer) + 4096 * state_number(state)
 }
 
-// The place of a point, or the refusal's number negated.
+// A place as a number: 256 for each stream, and the subcarrier counted from -128 on.
+fn found_number(stream: u8, subcarrier: i32) -> u64
+    requires { ⌜ Inside 40 subcarrier ⌝ }
+    ensures { λ r. ⌜ (pos r ≡ pos (256 * stream) +ℤ (subcarrier +ℤ pos 128)) × (r < 65536) ⌝ }
+{
+    256 * wide(stream) + (index(subcarrier) as u64 + 64)
+}
+
+// The place of a point, 65,535 where there is none, or the refusal's number negated.
 pub fn place_number(answer: PlaceAnswer) -> i64
+    requires { ⌜ PlaceRight answer ⌝ }
     ensures { λ r. ⌜ r ≡ placedResult answer ⌝ }
 {
     match answer {
         PlaceAnswer::Passed => 65535,
-        PlaceAnswer::Found(i, z) => 256 * (i as i64) + ((z as i64) + 128),
+        PlaceAnswer::Found(i, z) => found_number(i, z) as i64,
         PlaceAnswer::Refused(r) => refused(r),
     }
 }

@@ -93,7 +93,7 @@ pub fn run_of(width: usize, r: usize) -> Run
 }
 
 // A subcarrier's number as an index, from -64 on: the one conversion.
-fn index(subcarrier: i32) -> usize
+pub fn index(subcarrier: i32) -> usize
     requires { ⌜ Inside 40 subcarrier ⌝ }
     ensures { λ r. ⌜ (subcarrierFrom r ≡ subcarrier) × (r < 128) ⌝ }
 {

@@ -127,13 +127,13 @@ code-number false f first k m e = refl
 
 module _ (s : Settings) (st : Reader) (points : List Float) where
   -- the inputs that the points show
-  abbrev heard : ℕ → ℕ
+  abbrev pub heard : ℕ → ℕ
   heard d = heardInput s st (shownBit (planFor s) points) d
 
-  abbrev decoded : Bool
+  abbrev pub decoded : Bool
   decoded = decodes (planFor s) (historyOf st) (shownBit (planFor s) points)
 
-  abbrev moved : Reader
+  abbrev pub moved : Reader
   moved = movedWith s st (historiesAfter s st heard) (scramblerFor st heard) (partLeft s (st .symbol) (st .part) (plainOf st heard))
 
   search-number : (x : Search) → stepNumber (bySearch x s st points .answer)
@@ -244,7 +244,7 @@ module _ (st : Reader) (points : List Float) (bytes : ℕ) (o : InReach st) wher
       (not (frameRight (settingsIn st) st (inputIn st points))) (sym number-first ∙ e)
 
 -- a state is in range with its settings accepted, or a step from it is 12 and gives it back
-reach : (st : Reader) (points : List Float) (bytes : ℕ) → InReach st ⊎ (stepOf st points bytes ≡ answered (StepRefused Closed) st)
+pub reach : (st : Reader) (points : List Float) (bytes : ℕ) → InReach st ⊎ (stepOf st points bytes ≡ answered (StepRefused Closed) st)
 reach st points bytes = by-check (checkOf (openRaw (st .settings))) refl
   where
     by-state : (s : Settings) → checkOf (openRaw (st .settings)) ≡ Accepted s → (b : Bool) → closedOf s st ≡ b
