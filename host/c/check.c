@@ -1,5 +1,5 @@
 /* Calls the core from C through the header: the first line of document 01's listing, there and back; then the points
- * and the subcarriers of its second line's frame. */
+ * and the subcarriers of its second line's frame; then a frame of two symbols, written and read back. */
 #include "../include/ht_core.h"
 
 #include <stdio.h>
@@ -107,10 +107,83 @@ static void check_carrier(void) {
     expect_level(out[1], 0, "data, second level");
 }
 
+/* MCS 16 at 40 MHz, green field, length 20: two symbols of three streams, 684 floats each. */
+static int64_t start(uint32_t mcs) { return ht_reader_start(40, mcs, 1, 20, 1, 1, 0, 0); }
+
+static int64_t step(int64_t state, const float *points, size_t points_len, uint8_t *payload, size_t payload_len) {
+    return ht_reader_step(40, 16, 1, 20, 1, 1, 0, 0, (uint64_t)state, points, points_len, payload, payload_len);
+}
+
+static int64_t place(int64_t state, const float *points, size_t points_len) {
+    return ht_reader_place(40, 16, 1, 20, 1, 1, 0, 0, (uint64_t)state, points, points_len);
+}
+
+static void expect_step(int64_t got, int64_t number, int64_t seed, int64_t state, const char *what) {
+    expect(HT_STEP_NUMBER(got), number, what);
+    expect(HT_STEP_SEED(got), seed, what);
+    expect((int64_t)HT_STEP_STATE(got), state, what);
+}
+
+static void check_reader(void) {
+    static const int64_t ended = (int64_t)1 << 48;
+    static const int64_t no_state = (int64_t)1 << 49;
+    static float symbol[2][684];
+    uint8_t sent[20], read[24], before[24];
+    int64_t state = 0, got;
+    for (size_t j = 0; j < sizeof sent; j++)
+        sent[j] = (uint8_t)(37 * j + 11);
+    memset(read, 0xAA, sizeof read);
+    memcpy(before, read, sizeof read);
+    expect(ht_symbol_count(40, 16, 1, 20, 93, 1, 1, 0, 0), 2, "symbols to read");
+    for (uint32_t n = 0; n < 2; n++)
+        expect(ht_points(40, 16, 1, 20, 93, 1, 1, 0, 0, sent, sizeof sent, n, symbol[n], 684), 684, "points to read");
+
+    expect(start(32), -HT_MCS, "a reader of MCS 32");
+    expect(start(16), 0, "start");
+
+    /* Refused steps, and what they give back. */
+    expect_step(step(0, symbol[0], 683, read, 20), HT_ROOM, 0, 0, "one float too few to read");
+    expect_step(step(0, symbol[0], 684, read, 19), HT_ROOM, 0, 0, "one byte too few for the payload");
+    expect_step(step(no_state, symbol[0], 684, read, 20), HT_CLOSED, 0, 0, "a state of 2^49");
+    expect_step(step(ended, symbol[0], 684, read, 20), HT_CLOSED, 0, ended, "an ended state");
+    expect_step(step(64 << 16, symbol[0], 684, read, 20), HT_CLOSED, 0, 64 << 16, "a history of 64");
+    expect_step(step(0, symbol[1], 684, read, 20), HT_POINT, 0, ended, "symbol 1 before symbol 0");
+    expect(place(no_state, symbol[0], 684), -HT_CLOSED, "the place of a state of 2^49");
+    expect(place(0, symbol[0], 683), -HT_ROOM, "the place with one float too few");
+    expect(place(0, symbol[0], 684), HT_NO_PLACE, "no place");
+    /* Stream 1, subcarrier 2, its first level: a zero with a sign. */
+    expect_level(symbol[0][2 * (114 + 57)], 0, "a zero above 0 at 40 MHz");
+    symbol[0][2 * (114 + 57)] = -0.0f;
+    expect_step(step(0, symbol[0], 684, read, 20), HT_POINT, 0, ended, "a negative zero");
+    expect(place(0, symbol[0], 684), 1 * 256 + (2 + 128), "its place");
+    symbol[0][2 * (114 + 57)] = 0.0f;
+    expect(memcmp(read, before, sizeof read), 0, "no byte read");
+
+    /* The frame, symbol by symbol: 162 data bits in each, so 146 payload bits, or 18 bytes and two bits, in the first. */
+    got = step(state, symbol[0], 684, read, sizeof read);
+    expect(HT_STEP_NUMBER(got), 0, "symbol 0");
+    expect(HT_STEP_SEED(got), 93, "the seed");
+    state = (int64_t)HT_STEP_STATE(got);
+    expect(state & 0xFFFF, 1, "the symbol that comes next");
+    expect(state >> 40, sent[18] & 3, "the part of a byte");
+    expect(memcmp(read, sent, 18), 0, "the bytes of symbol 0");
+    expect(memcmp(read + 18, before + 18, sizeof read - 18), 0, "the bytes after them");
+    got = step(state, symbol[1], 684, read, sizeof read);
+    expect(HT_STEP_NUMBER(got), 0, "symbol 1");
+    expect(HT_STEP_SEED(got), 0, "no seed with symbol 1");
+    state = (int64_t)HT_STEP_STATE(got);
+    expect(state & 0xFFFF, 2, "all symbols are read");
+    expect(state & ended, ended, "the reader is finished");
+    expect(memcmp(read, sent, sizeof sent), 0, "the payload");
+    expect(memcmp(read + 20, before + 20, 4), 0, "the bytes past it");
+    expect_step(step(state, symbol[1], 684, read, sizeof read), HT_CLOSED, 0, state, "one step more");
+}
+
 int main(void) {
     check_signal();
     check_points();
     check_carrier();
+    check_reader();
     if (failures == 0)
         printf("C calls: ok\n");
     return failures != 0;

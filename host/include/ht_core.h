@@ -1,9 +1,10 @@
 /* The C calls of the proved HT signal core. Link target/staticlib/libcapi.a (x86-64).
  *
  * Every call returns one int64_t. A negative result is the number of a refusal,
- * negated; a refused call has changed nothing in lent memory. No call asks
- * anything of its numbers; a pointer and its length must name memory that the
- * caller may lend, and two lent slices of one call must not overlap.
+ * negated, but for ht_reader_step, whose result is never negative and holds the
+ * number beside the state. A refused call has changed nothing in lent memory. No
+ * call asks anything of its numbers; a pointer and its length must name memory
+ * that the caller may lend, and two lent slices of one call must not overlap.
  *
  * A flag (smoothing, not_sounding, aggregation, short_guard) is off at 0 and on
  * at any other number. docs/C-API.md has the full account. */
@@ -25,7 +26,11 @@ enum ht_refusal {
     HT_SEED = 5,     /* seed 0 or over 127 */
     HT_SOURCE = 6,   /* payload slice shorter than length; signal slice to read not 6 bytes */
     HT_PLACE = 7,    /* symbol, stream or subcarrier not in the frame */
-    HT_ROOM = 8,     /* lent slice for points or signal bytes too short */
+    HT_ROOM = 8,     /* lent slice for points, signal bytes or payload too short */
+    HT_POINT = 9,    /* reader: a point or pilot is not one the rules give */
+    HT_CODE = 10,    /* reader: no data bits give these coded bits after the earlier ones */
+    HT_FRAME = 11,   /* reader: service, tail or pad bit wrong, or the seed would be 0 */
+    HT_CLOSED = 12,  /* reader: state finished, ended by 9 to 11, or outside its ranges */
     HT_SIGCRC = 13,  /* signal read: CRC wrong */
     HT_SIGFORM = 14  /* signal read: other bits wrong */
 };
@@ -70,6 +75,42 @@ int64_t ht_carrier(uint32_t width, uint32_t mcs, uint32_t format, uint32_t lengt
                    uint32_t smoothing, uint32_t not_sounding, uint32_t aggregation, uint32_t short_guard,
                    const uint8_t *payload, size_t payload_len, uint32_t symbol, uint32_t stream, int32_t subcarrier,
                    float *out, size_t out_len);
+
+/* The strict reader takes the symbols 0, 1, 2 and so on of one frame, in order, and is handed back each state as it was
+ * returned. Its settings have no seed: that is in the answer to symbol 0.
+ *
+ * The state is one number below 2^49:
+ *     symbol + 2^16 * history 0 + 2^24 * history 1 + 2^32 * scrambler + 2^40 * part of a byte + 2^48 * ended
+ * The symbol is the one that is read next. A history is the last six inputs of an encoder, the newest in bit 0. The
+ * scrambler is the one that the next symbol's first data bit is scrambled from, as a seed (bit 0 is x1). The part has the
+ * bits of the payload byte that is not complete, low. Ended is 1 after the last symbol and after 9, 10 and 11. */
+
+/* The state before symbol 0. Refusals in order: 1 to 4. */
+int64_t ht_reader_start(uint32_t width, uint32_t mcs, uint32_t format, uint32_t length,
+                        uint32_t smoothing, uint32_t not_sounding, uint32_t aggregation, uint32_t short_guard);
+
+/* Reads one symbol: points as ht_points writes them, and a payload slice for the whole payload at every step, which gets
+ * the bytes that the symbol completes, each at its own index; the rest of it is as it was. Never negative:
+ *     number + 2^5 * seed + 2^12 * state
+ * The number is 0 (accepted) or the refusal's; the seed is that of an accepted symbol 0 and else 0; the state is the one
+ * after the step. Refusals in order: 12 (also for refused settings and for a number of 2^49 or more), 8, 9, 10, 11. With
+ * 9, 10 and 11 the state comes back with its end marked; with 8 and 12 as it was, modulo 2^49. */
+int64_t ht_reader_step(uint32_t width, uint32_t mcs, uint32_t format, uint32_t length,
+                       uint32_t smoothing, uint32_t not_sounding, uint32_t aggregation, uint32_t short_guard,
+                       uint64_t state, const float *points, size_t points_len, uint8_t *payload, size_t payload_len);
+
+/* The parts of a step's result. */
+#define HT_STEP_NUMBER(step) ((uint32_t)((step) & 31))
+#define HT_STEP_SEED(step) ((uint32_t)((step) >> 5 & 127))
+#define HT_STEP_STATE(step) ((uint64_t)(step) >> 12)
+
+/* Where a step from this state gives 9: stream * 256 + (subcarrier + 128) of the first point that fails, streams in order,
+ * subcarriers rising; HT_NO_PLACE where every point passes. Refusals in order: 12, 8 (floats only). */
+int64_t ht_reader_place(uint32_t width, uint32_t mcs, uint32_t format, uint32_t length,
+                        uint32_t smoothing, uint32_t not_sounding, uint32_t aggregation, uint32_t short_guard,
+                        uint64_t state, const float *points, size_t points_len);
+
+#define HT_NO_PLACE 65535
 
 #ifdef __cplusplus
 }

@@ -1,6 +1,9 @@
 //! Times the core's points calls beside two Rust programs of the same steps: a plain one, bit by bit and without tables,
 //! and the same tidied. Before it measures, it compares the three by bits on every symbol that it will measure.
 //!
+//! It also times the core reading the same symbols back, against writing them; before that, it compares the bytes read
+//! with the payload.
+//!
 //! The first argument is the number of runs, 21 without one.
 
 #![deny(unsafe_code)]
@@ -11,6 +14,7 @@ mod plain;
 mod tidy;
 
 use controller::{carrier, floats_per_symbol, symbol_count, Carrier, RawSettings, Refusal};
+use controller::{reader_start, reader_step_number};
 use std::hint::black_box;
 use std::time::{Duration, Instant};
 
@@ -108,6 +112,33 @@ impl Frame {
         }
     }
 
+    /// All symbols of the frame by the core, one after the other.
+    fn all_points(&self) -> Vec<f32> {
+        let mut all = vec![0.0; self.floats * self.symbols as usize];
+        for (symbol, out) in (0..).zip(all.chunks_exact_mut(self.floats)) {
+            core_points(self.s, &self.payload, symbol, out).expect("a symbol of the frame");
+        }
+        all
+    }
+
+    /// Whether the core reads the payload and the seed back from these points, and then needs no more symbols.
+    fn is_read_back(&self, all: &[f32]) -> bool {
+        // No byte is right before it is read.
+        let mut read: Vec<u8> = self.payload.iter().map(|byte| !byte).collect();
+        let mut state = reader_start(self.s).expect("accepted settings");
+        let mut seed = 0;
+        for points in all.chunks_exact(self.floats) {
+            let step = reader_step_number(self.s, state, points, &mut read);
+            if step.number != 0 {
+                return false;
+            }
+            seed += step.seed;
+            state = step.state;
+        }
+        let finished = 1 << 48 | u64::from(self.symbols);
+        seed == self.s.seed && read == self.payload && state & (1 << 48 | 0xFFFF) == finished
+    }
+
     /// The first symbol on which the programs differ by a bit, or on which the question and the first program do.
     fn disagreement(&self, programs: [Points; 3]) -> Option<u32> {
         (0..self.symbols).find(|symbol| !self.agree(programs, *symbol))
@@ -181,29 +212,44 @@ fn time_question(frame: &Frame, places: &[Place]) -> Time {
     })
 }
 
+/// All symbols of the frame read back, one step each, from one slice of all points into one payload.
+fn time_reading(frame: &Frame, all: &[f32], payload: &mut [u8]) -> Time {
+    time(|| {
+        let mut state = reader_start(frame.s).expect("accepted settings");
+        for points in black_box(all).chunks_exact(frame.floats) {
+            let step = reader_step_number(frame.s, state, points, payload);
+            assert_eq!(step.number, 0);
+            state = step.state;
+            black_box(&mut *payload);
+        }
+    })
+}
+
 /// The middle one of the sorted durations (of an even number the later of two), in milliseconds.
 fn median(mut durations: Vec<Duration>) -> f64 {
     durations.sort();
     durations[durations.len() / 2].as_secs_f64() * 1e3
 }
 
-/// Medians in milliseconds: of the three programs, then of the question.
+/// Medians in milliseconds: of the three programs, then of the question, then of reading.
 struct Medians {
-    cpu: [f64; 4],
-    wall: [f64; 4],
+    cpu: [f64; 5],
+    wall: [f64; 5],
 }
 
-fn measure(frame: &Frame, runs: usize) -> Medians {
+fn measure(frame: &Frame, all: &[f32], runs: usize) -> Medians {
     let places: Vec<Place> = (0..frame.symbols).map(|n| frame.place(n)).collect();
     let mut out = vec![0.0; frame.floats];
-    let mut times: [Vec<Time>; 4] = Default::default();
+    let mut payload = vec![0; frame.payload.len()];
+    let mut times: [Vec<Time>; 5] = Default::default();
     // The first round warms up and is not counted.
     for round in 0..=runs {
         for turn in 0..times.len() {
             let subject = (turn + round) % times.len();
-            let took = match PROGRAMS.get(subject) {
-                Some(points) => time_points(*points, frame, &mut out),
-                None => time_question(frame, &places),
+            let took = match subject {
+                3 => time_question(frame, &places),
+                4 => time_reading(frame, all, &mut payload),
+                program => time_points(PROGRAMS[program], frame, &mut out),
             };
             if round > 0 {
                 times[subject].push(took);
@@ -211,8 +257,9 @@ fn measure(frame: &Frame, runs: usize) -> Medians {
         }
     }
     let medians = |of: fn(&Time) -> Duration| {
-        [0, 1, 2, 3].map(|subject| median(times[subject].iter().map(of).collect()))
+        [0, 1, 2, 3, 4].map(|subject| median(times[subject].iter().map(of).collect()))
     };
+    assert!(payload == frame.payload, "what was read is not the payload");
     Medians {
         cpu: medians(|time| time.cpu),
         wall: medians(|time| time.wall),
@@ -223,7 +270,7 @@ fn report(frame: &Frame, medians: &Medians) {
     println!("clock  program         ms  us/symbol  to plain  to tidied");
     for (clock, ms) in [("cpu", medians.cpu), ("wall", medians.wall)] {
         let us = ms.map(|ms| ms * 1e3 / f64::from(frame.symbols));
-        let [core, plain, tidied, question] = ms;
+        let [core, plain, tidied, question, reading] = ms;
         for (program, name) in NAMES.iter().enumerate() {
             println!(
                 "{clock:5}  {name:7} {:>10.3} {:>10.3} {:>9.3} {:>10.3}",
@@ -237,6 +284,12 @@ fn report(frame: &Frame, medians: &Medians) {
             "{clock:5}  one question {:.3} us: {:.3} of one points call of the core",
             us[3],
             question / core
+        );
+        println!(
+            "{clock:5}  core, us/symbol: write {:.3}, read {:.3}; read / write {:.3}",
+            us[0],
+            us[4],
+            reading / core
         );
     }
 }
@@ -259,6 +312,9 @@ fn main() {
     println!(
         "The points buffer is not cleared between calls; working memory that a call clears is in its time."
     );
+    println!(
+        "Reading takes the symbols in order from one slice of all points; writing uses one symbol's buffer again."
+    );
     println!("cpu is the thread's CPU time, wall the time that passed.");
     for (mcs, width) in CASES {
         let frame = Frame::new(settings(mcs, width, 65_535));
@@ -272,7 +328,13 @@ fn main() {
             std::process::exit(1);
         }
         println!("core, plain and tidied agree by bits on every symbol");
-        report(&frame, &measure(&frame, runs));
+        let all = frame.all_points();
+        if !frame.is_read_back(&all) {
+            eprintln!("the core does not read its own symbols back");
+            std::process::exit(1);
+        }
+        println!("the core reads payload and seed back");
+        report(&frame, &measure(&frame, &all, runs));
     }
 }
 
@@ -354,6 +416,34 @@ mod tests {
             assert_eq!(frame.disagreement(PROGRAMS), None);
             assert!(frame.symbols > 7);
         }
+    }
+
+    /// What is measured is read first: other points, and points of another payload, are not.
+    #[test]
+    fn the_measured_frames_are_read_back() {
+        for (mcs, width) in CASES {
+            let frame = Frame::new(settings(mcs, width, 2_000));
+            let all = frame.all_points();
+            assert!(frame.is_read_back(&all));
+            assert!(!frame.is_read_back(&all[..all.len() - frame.floats]));
+            let mut damaged = all.clone();
+            damaged[all.len() - 1] = f32::NAN;
+            assert!(!frame.is_read_back(&damaged));
+            let mut other = Frame::new(frame.s);
+            other.payload[1_999] ^= 128;
+            assert!(!frame.is_read_back(&other.all_points()));
+            other.payload[1_999] ^= 128;
+            other.s.seed = 94;
+            assert!(!frame.is_read_back(&other.all_points()));
+        }
+    }
+
+    /// Five medians: of three programs, the question and reading.
+    #[test]
+    fn everything_is_measured() {
+        let frame = Frame::new(settings(0, 20, 200));
+        let medians = measure(&frame, &frame.all_points(), 1);
+        assert!(medians.cpu.iter().chain(&medians.wall).all(|ms| *ms > 0.0));
     }
 
     /// The plain program with one bit of one symbol turned over: a zero gets a sign.

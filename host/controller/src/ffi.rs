@@ -3,7 +3,7 @@
 //! Nothing checks these declarations against the core's source: they are part
 //! of what is trusted. A slice goes as a pointer and a length.
 
-use crate::RawSettings;
+use crate::{RawOpenSettings, RawSettings};
 
 extern "C" {
     fn ht_symbol_count(
@@ -69,6 +69,47 @@ extern "C" {
         out: *mut f32,
         out_len: usize,
     ) -> i64;
+
+    fn ht_reader_start(
+        width: u32,
+        mcs: u32,
+        format: u32,
+        length: u32,
+        smoothing: u32,
+        not_sounding: u32,
+        aggregation: u32,
+        short_guard: u32,
+    ) -> i64;
+
+    fn ht_reader_step(
+        width: u32,
+        mcs: u32,
+        format: u32,
+        length: u32,
+        smoothing: u32,
+        not_sounding: u32,
+        aggregation: u32,
+        short_guard: u32,
+        state: u64,
+        points: *const f32,
+        points_len: usize,
+        payload: *mut u8,
+        payload_len: usize,
+    ) -> i64;
+
+    fn ht_reader_place(
+        width: u32,
+        mcs: u32,
+        format: u32,
+        length: u32,
+        smoothing: u32,
+        not_sounding: u32,
+        aggregation: u32,
+        short_guard: u32,
+        state: u64,
+        points: *const f32,
+        points_len: usize,
+    ) -> i64;
 }
 
 /// A call whose first nine numbers are the settings.
@@ -80,6 +121,23 @@ macro_rules! with_settings {
             $s.format,
             $s.length,
             $s.seed,
+            $s.smoothing,
+            $s.not_sounding,
+            $s.aggregation,
+            $s.short_guard,
+            $($more),*
+        )
+    };
+}
+
+/// A call whose first eight numbers are the settings without a seed.
+macro_rules! with_open_settings {
+    ($call:ident, $s:ident $(, $more:expr)*) => {
+        $call(
+            $s.width,
+            $s.mcs,
+            $s.format,
+            $s.length,
             $s.smoothing,
             $s.not_sounding,
             $s.aggregation,
@@ -144,4 +202,36 @@ pub(crate) fn carrier(
             out.len()
         )
     }
+}
+
+pub(crate) fn reader_start(s: &RawOpenSettings) -> i64 {
+    // SAFETY: the call takes numbers only.
+    unsafe { with_open_settings!(ht_reader_start, s) }
+}
+
+pub(crate) fn reader_step(
+    s: &RawOpenSettings,
+    state: u64,
+    points: &[f32],
+    payload: &mut [u8],
+) -> i64 {
+    // SAFETY: each pointer and its length are those of one borrowed slice; the core only reads
+    // the points, `payload` is borrowed exclusively, so the two do not overlap, and the core stays
+    // inside what it is lent. Any eight bits are a `u8`.
+    unsafe {
+        with_open_settings!(
+            ht_reader_step,
+            s,
+            state,
+            points.as_ptr(),
+            points.len(),
+            payload.as_mut_ptr(),
+            payload.len()
+        )
+    }
+}
+
+pub(crate) fn reader_place(s: &RawOpenSettings, state: u64, points: &[f32]) -> i64 {
+    // SAFETY: the pointer and the length are those of one borrowed slice, which the core only reads.
+    unsafe { with_open_settings!(ht_reader_place, s, state, points.as_ptr(), points.len()) }
 }

@@ -21,14 +21,20 @@
 //! ```
 //!
 //! [`points`] gives any one data symbol of a frame by its number, in any order; [`carrier`] says what
-//! one subcarrier of it carries.
+//! one subcarrier of it carries. [`Reader`] takes the symbols 0, 1, 2 and so on back and gives the
+//! payload and the seed, or refuses what no frame of its settings is.
 
 #![deny(unsafe_code)]
 
 #[allow(unsafe_code)]
 mod ffi;
+mod reader;
 mod refusal;
 
+pub use reader::{
+    reader_place, reader_start, reader_step_number, OpenSettings, RawOpenSettings, RawStep,
+    ReadRefusal, Reader, Step,
+};
 pub use refusal::Refusal;
 
 /// The channel width.
@@ -187,9 +193,14 @@ pub fn sig_read(sig: &[u8]) -> Result<SigFields, Refusal> {
 pub fn floats_per_symbol(settings: impl Into<RawSettings>) -> Result<usize, Refusal> {
     let settings = settings.into();
     symbol_count(settings)?;
-    let streams = settings.mcs as usize / 8 + 1;
-    let used = if settings.width == 40 { 114 } else { 56 };
-    Ok(2 * used * streams)
+    Ok(floats(settings.width, settings.mcs))
+}
+
+/// The floats of a symbol, of a width and an MCS that are accepted.
+fn floats(width: u32, mcs: u32) -> usize {
+    let streams = mcs as usize / 8 + 1;
+    let used = if width == 40 { 114 } else { 56 };
+    2 * used * streams
 }
 
 /// Writes the points of one data symbol at the start of `out`, and gives the number of floats

@@ -5,7 +5,7 @@ mod common;
 use common::GOOD;
 use controller::{
     carrier, points, sig_bytes, sig_read, sig_write, symbol_count, Carrier, Flags, Format,
-    RawSettings, Refusal, Settings, Width,
+    RawSettings, ReadRefusal, Reader, Refusal, Settings, Step, Width,
 };
 
 fn count(mcs: u32, width: u32, length: u32) -> Result<u64, Refusal> {
@@ -208,6 +208,22 @@ fn published_annex_g_coded_bits() {
         .map(|place| &label[place..place + 1])
         .collect();
     assert_eq!(coded, published);
+}
+
+/// The second level of subcarrier -23, at MCS 0 and 20 MHz: as it is written the symbol is accepted.
+#[test]
+fn a_negative_zero_is_9() {
+    let mut symbol = [f32::NAN; 112];
+    points(GOOD, &[0x5A], 0, &mut symbol).unwrap();
+    assert_eq!(symbol[11].to_bits(), 0);
+    let read = |symbol: &[f32]| Reader::start(GOOD).unwrap().step(symbol, &mut [0]);
+    assert!(matches!(read(&symbol), Ok(Step::Next { .. })));
+    symbol[11] = -0.0;
+    let place = ReadRefusal::Point {
+        stream: 0,
+        subcarrier: -23,
+    };
+    assert_eq!(read(&symbol), Err(place));
 }
 
 /// IEEE 802.11, clause 20: the check bits of `15 40 100` in order of transmission.

@@ -3,22 +3,13 @@
 
 mod common;
 
-use common::{bits, carried, numbered, question_range, Draw, GOOD};
+use common::{bits, carried, numbered, pilot_places, question_range, Draw, GOOD};
 use controller::{
     carrier, carrier_into, floats_per_symbol, points, sig_write, symbol_count, RawSettings,
     MAX_FLOATS,
 };
 use std::collections::HashSet;
 use std::ops::Range;
-
-/// The places of the pilots among the used subcarriers of a stream, and the number of these.
-fn pilot_places(width: u32) -> (&'static [usize], usize) {
-    if width == 40 {
-        (&[5, 33, 47, 66, 80, 108], 114)
-    } else {
-        (&[7, 21, 34, 48], 56)
-    }
-}
 
 /// A symbol's levels by bits.
 fn symbol(s: RawSettings, payload: &[u8], n: u32) -> Vec<u32> {

@@ -2,7 +2,9 @@
 
 #![allow(dead_code)]
 
-use controller::{Carrier, RawSettings};
+pub mod reading;
+
+use controller::{Carrier, RawOpenSettings, RawSettings};
 
 /// xorshift64*: the same numbers on every run.
 pub struct Draw(u64);
@@ -60,6 +62,20 @@ pub fn second_settings(s: RawSettings) -> second::Settings {
     }
 }
 
+/// The same settings without a seed for the second program.
+pub fn second_open(s: RawOpenSettings) -> second::OpenSettings {
+    second::OpenSettings {
+        width: s.width,
+        mcs: s.mcs,
+        format: s.format,
+        length: s.length,
+        smoothing: s.smoothing != 0,
+        not_sounding: s.not_sounding != 0,
+        aggregation: s.aggregation != 0,
+        short_guard: s.short_guard != 0,
+    }
+}
+
 /// A refusal's number, or the value.
 pub fn numbered<T>(result: Result<T, controller::Refusal>) -> Result<T, u32> {
     result.map_err(|r| r.number())
@@ -68,6 +84,15 @@ pub fn numbered<T>(result: Result<T, controller::Refusal>) -> Result<T, u32> {
 /// The floats by their bits: equal floats here are equal numbers with equal zeros and equal NaNs.
 pub fn bits(floats: &[f32]) -> Vec<u32> {
     floats.iter().map(|f| f.to_bits()).collect()
+}
+
+/// The places of the pilots among the used subcarriers of a stream, and the number of these.
+pub fn pilot_places(width: u32) -> (&'static [usize], usize) {
+    if width == 40 {
+        (&[5, 33, 47, 66, 80, 108], 114)
+    } else {
+        (&[7, 21, 34, 48], 56)
+    }
 }
 
 /// The lowest and the highest subcarrier that the question takes.
