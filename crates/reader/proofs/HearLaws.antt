@@ -32,18 +32,15 @@ use Rattle.demapper.specs.Demapped.{pointGiven, searchOf, shownBit}
 use Rattle.demapper.specs.Asked.{BitsShown, SymbolAsked as SymbolBitsAsked}
 use Rattle.decoder.specs.Decoded.{bitsIn, historyMoved, SymbolAsked}
 use Rattle.decoder.proofs.ExtLaws.{decoded-ext, decodes-ext, moved-ext}
-use Rattle.reader.specs.declared.state.Reader.{Reader}
+use Rattle.reader_state.specs.declared.state.Reader.{Reader}
 use Rattle.reader.specs.declared.step.StepAnswer.{StepAnswer}
 use Rattle.reader.specs.declared.step.StepAnswer.the-variants.{First, Next, BadPoint, Refused as StepRefused}
 use Rattle.reader.specs.declared.step.Stepped.{Stepped}
-use Rattle.reader.specs.declared.place.PlaceAnswer.{PlaceAnswer}
-use Rattle.reader.specs.declared.place.PlaceAnswer.the-variants.{Passed, Found, Refused as PlaceRefused}
-use Rattle.reader.specs.State.{InRange, openRaw, historyOf, closedOf, endedOf}
+use Rattle.reader_state.specs.State.{InRange, openRaw, historyOf, closedOf, endedOf}
 use Rattle.reader.specs.Step.{answered, scramblerFor, plainOf, frameRight, partLeft, bytesInto, intoBy, movedWith, historiesAfter, acceptedWith, byFrame, heardInput, byCode, bySearch, noRoom, stepBy, stepOf, writtenBy, stepInto}
-use Rattle.reader.specs.Place.{foundAs, placeBy, placeOf}
 use Rattle.reader.specs.Asked.{bitsOf, HeardInputs, FrameAsked, LabelsAsked, PointsAsked}
 use Rattle.chain.proofs.DecodeLaws.{decoded-bit}
-use Rattle.reader.proofs.StateLaws.{symbol-few}
+use Rattle.reader_state.proofs.StateLaws.{symbol-few}
 use Rattle.reader.proofs.StepLaws.{scrambler-ext, plain-ext, frame-ext, left-ext, into-ext}
 
 module _ (s : Settings) (right : Right s) (st : Reader) where
@@ -124,9 +121,6 @@ module _ (st : Reader) (points : List Float) (payload : List ℕ) (x : Checked) 
             ∙ ap (λ (q : Stepped). intoBy (q .answer) (writtenBy (checkOf (openRaw (st .settings))) st points payload) payload) f,
       )
 
-  pub place-as : (r : PlaceAnswer) → r ≡ placeBy x st points → r ≡ placeOf st points
-  place-as r e = e ∙ ap (λ (y : Checked). placeBy y st points) known
-
 -- by the tests of the state and of the room
 module _ (s : Settings) (st : Reader) (points : List Float) where
   pub step-by : (bytes : ℕ) (closed small : Bool) → closed ≡ closedOf s st → small ≡ noRoom s (length points) bytes
@@ -136,13 +130,6 @@ module _ (s : Settings) (st : Reader) (points : List Float) where
   step-by bytes closed small e f =
       ap₂ (λ (a b : Bool). cond a (answered (StepRefused Closed) st)
       (cond b (answered (StepRefused Room) st) (bySearch (searchOf (planFor s) points (s .format) (st .symbol)) s st points))) e f
-
-  pub place-by : (closed small : Bool) → closed ≡ closedOf s st → small ≡ ltb (length points) (floatsOf s)
-      → (found : Search) → found ≡ searchOf (planFor s) points (s .format) (st .symbol)
-      → cond closed (PlaceRefused Closed) (cond small (PlaceRefused Room) (foundAs found s)) ≡ placeBy (Accepted s) st points
-  place-by closed small e f found g =
-      ap₂ (λ (a b : Bool). cond a (PlaceRefused Closed) (cond b (PlaceRefused Room) (foundAs found s))) e f
-      ∙ ap (λ (x : Search). cond (closedOf s st) (PlaceRefused Closed) (cond (ltb (length points) (floatsOf s)) (PlaceRefused Room) (foundAs x s))) g
 
 -- ---- what the parts of the step ask of each other
 

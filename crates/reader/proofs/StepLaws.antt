@@ -25,14 +25,14 @@ use Rattle.deframer.specs.Deframed.{plainBit, framed, payloadBefore, byteOf, pa
 use Rattle.deframer.proofs.Packing.{packed-ext}
 use Rattle.deframer.proofs.Framing.{framed-ext}
 use Rattle.deframer.proofs.KnownBits.{known-ext}
-use Rattle.reader.specs.declared.state.Reader.{Reader}
+use Rattle.reader_state.specs.declared.state.Reader.{Reader}
 use Rattle.reader.specs.declared.step.StepAnswer.{StepAnswer}
 use Rattle.reader.specs.declared.step.StepAnswer.the-variants.{First, Next, BadPoint, Refused as StepRefused}
 use Rattle.reader.specs.declared.step.Stepped.{Stepped}
-use Rattle.reader.specs.State.{historyOf, firstBit, endedOf}
+use Rattle.reader_state.specs.State.{historyOf, firstBit, endedOf}
 use Rattle.reader.specs.Step.{answered, scramblerFor, plainOf, frameRight, bitsBefore, bitsAfter, knownOf, partLeft, bytesLeft, bytesInto, intoBy, movedWith, historiesAfter, acceptedWith, byFrame, heardInput, byCode}
 use Rattle.reader.specs.Asked.{bitsOf, InputsHeld, ScramblerAsked, framedIn, RightAsked, BytesAsked, HeardInputs}
-use Rattle.reader.proofs.StateLaws.{first-near, symbol-few}
+use Rattle.reader_state.proofs.StateLaws.{first-near, symbol-few}
 
 firsts-ext : {A : Type 0} (f g : ℕ → A) (n : ℕ) → ((k : ℕ) → k < n → f k ≡ g k) → firsts f n ≡ firsts g n
 firsts-ext f g zero e = refl

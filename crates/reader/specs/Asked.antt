@@ -10,9 +10,9 @@ use Rattle.settings.specs.Settings.{planFor, Right}
 use Rattle.settings.specs.Symbols.{symbolsOf}
 use Rattle.frame.specs.Points.{floatsOf}
 use Rattle.deframer.specs.Deframed.{framed, PayloadAsked}
-use Rattle.reader.specs.declared.state.Reader.{Reader}
+use Rattle.reader_state.specs.declared.state.Reader.{Reader}
 use Rattle.reader.specs.declared.step.Stepped.{Stepped}
-use Rattle.reader.specs.State.{InRange, firstBit}
+use Rattle.reader_state.specs.State.{InRange, firstBit}
 use Rattle.reader.specs.Step.{bytesInto, intoBy, byFrame}
 
 -- bits in a list, by their number in the symbol

@@ -1,4 +1,2 @@
-pub mod State
 pub mod Step
-pub mod Place
 pub mod Asked

@@ -23,11 +23,11 @@ use Rattle.demapper.specs.declared.search.Search.the-variants.{AllGiven, At}
 use Rattle.demapper.specs.Demapped.{searchOf, shownBit}
 use Rattle.decoder.specs.Decoded.{historyMoved}
 use Rattle.deframer.specs.Deframed.{plainBit, framed, payloadBefore, byteOf, partOf, knownBit}
-use Rattle.reader.specs.declared.state.Reader.{Reader}
+use Rattle.reader_state.specs.declared.state.Reader.{Reader}
 use Rattle.reader.specs.declared.step.StepAnswer.{StepAnswer}
 use Rattle.reader.specs.declared.step.StepAnswer.the-variants.{First, Next, BadPoint, Refused as StepRefused}
 use Rattle.reader.specs.declared.step.Stepped.{Stepped}
-use Rattle.reader.specs.State.{openRaw, historyOf, firstBit, closedOf, endedOf}
+use Rattle.reader_state.specs.State.{openRaw, historyOf, firstBit, closedOf, endedOf}
 
 abbrev pub answered : StepAnswer → Reader → Stepped
 answered a st = record { answer = a; state = st }

@@ -1,4 +1,2 @@
-// The strict reader: symbols 0, 1, 2 in order, with no noise, its state by value.
-pub mod place;
-pub mod state;
+// The strict reader's step: symbols 0, 1, 2 in order, with no noise.
 pub mod step;

@@ -1,8 +1,8 @@
 // One step of the reader: a symbol's points, its label bits, its inputs, its data bits, its bytes.
-use crate::state::Reader;
-use crate::state::ended;
-use crate::state::is_closed;
-use crate::state::raw_of;
+use reader_state::state::Reader;
+use reader_state::state::ended;
+use reader_state::state::is_closed;
+use reader_state::state::raw_of;
 use decoder::forced::symbol_inputs;
 use deframer::bits::descramble;
 use deframer::bits::is_framed;

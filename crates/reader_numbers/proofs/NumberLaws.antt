@@ -26,17 +26,17 @@ use Rattle.frame.specs.Points.{floatsOf}
 use Rattle.demapper.specs.declared.search.Search.{Search}
 use Rattle.demapper.specs.declared.search.Search.the-variants.{AllGiven, At}
 use Rattle.demapper.specs.Demapped.{searchOf, shownBit}
-use Rattle.reader.specs.declared.state.OpenSettings.{OpenSettings}
-use Rattle.reader.specs.declared.state.Reader.{Reader}
-use Rattle.reader.specs.declared.state.StartAnswer.{StartAnswer}
-use Rattle.reader.specs.declared.state.Started.{Started}
+use Rattle.reader_state.specs.declared.state.OpenSettings.{OpenSettings}
+use Rattle.reader_state.specs.declared.state.Reader.{Reader}
+use Rattle.reader_state.specs.declared.state.StartAnswer.{StartAnswer}
+use Rattle.reader_state.specs.declared.state.Started.{Started}
 use Rattle.reader.specs.declared.step.StepAnswer.the-variants.{First, Next, Refused as StepRefused}
 use Rattle.reader.specs.declared.step.Stepped.{Stepped}
-use Rattle.reader.specs.declared.place.PlaceAnswer.{PlaceAnswer}
-use Rattle.reader.specs.declared.place.PlaceAnswer.the-variants.{Passed, Found, Refused as PlaceRefused}
-use Rattle.reader.specs.State.{openRaw, startBy, startOf, historyOf, closedOf, endedOf}
+use Rattle.reader_place.specs.declared.place.PlaceAnswer.{PlaceAnswer}
+use Rattle.reader_place.specs.declared.place.PlaceAnswer.the-variants.{Passed, Found, Refused as PlaceRefused}
+use Rattle.reader_state.specs.State.{openRaw, startBy, startOf, historyOf, closedOf, endedOf}
 use Rattle.reader.specs.Step.{answered, scramblerFor, plainOf, frameRight, partLeft, movedWith, historiesAfter, heardInput, bySearch, noRoom, stepOf, stepInto}
-use Rattle.reader.specs.Place.{foundAs, placeBy, placeOf}
+use Rattle.reader_place.specs.Place.{foundAs, placeBy, placeOf}
 use Rattle.reader.proofs.HearLaws.{place-few}
 use Rattle.conversions.specs.Results.{refusedResult}
 use Rattle.verdicts.specs.Statements.{InReach, settingsIn}

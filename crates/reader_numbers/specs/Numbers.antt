@@ -9,17 +9,17 @@ use lib.Ieee.{Float}
 use Rattle.settings.specs.declared.settings.Refusal.the-variants.{Closed}
 use Rattle.subcarriers.specs.Subcarriers.{Inside}
 use Rattle.signal.specs.HtSig.{oneIf}
-use Rattle.reader.specs.declared.state.OpenSettings.{OpenSettings}
-use Rattle.reader.specs.declared.state.Reader.{Reader}
-use Rattle.reader.specs.declared.state.StartAnswer.{StartAnswer}
-use Rattle.reader.specs.declared.state.StartAnswer.the-variants.{Ready, Refused as StartRefused}
-use Rattle.reader.specs.declared.state.Started.{Started}
+use Rattle.reader_state.specs.declared.state.OpenSettings.{OpenSettings}
+use Rattle.reader_state.specs.declared.state.Reader.{Reader}
+use Rattle.reader_state.specs.declared.state.StartAnswer.{StartAnswer}
+use Rattle.reader_state.specs.declared.state.StartAnswer.the-variants.{Ready, Refused as StartRefused}
+use Rattle.reader_state.specs.declared.state.Started.{Started}
 use Rattle.reader.specs.declared.step.Stepped.{Stepped}
-use Rattle.reader.specs.declared.place.PlaceAnswer.{PlaceAnswer}
-use Rattle.reader.specs.declared.place.PlaceAnswer.the-variants.{Passed, Found, Refused as PlaceRefused}
-use Rattle.reader.specs.State.{startOf}
+use Rattle.reader_place.specs.declared.place.PlaceAnswer.{PlaceAnswer}
+use Rattle.reader_place.specs.declared.place.PlaceAnswer.the-variants.{Passed, Found, Refused as PlaceRefused}
+use Rattle.reader_state.specs.State.{startOf}
 use Rattle.reader.specs.Step.{stepOf, stepInto, stepNumber, stepSeed}
-use Rattle.reader.specs.Place.{placeOf}
+use Rattle.reader_place.specs.Place.{placeOf}
 use Rattle.conversions.specs.Results.{flagOn, refusedResult}
 
 -- settings without a seed: a flag is off at 0 and on at any other number

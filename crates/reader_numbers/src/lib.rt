@@ -1,8 +1,8 @@
 // The reader's settings, states and answers as the numbers of the C calls.
 use conversions::refused;
-use reader::place::PlaceAnswer;
-use reader::state::OpenSettings;
-use reader::state::Reader;
+use reader_place::place::PlaceAnswer;
+use reader_state::state::OpenSettings;
+use reader_state::state::Reader;
 use reader::step::StepAnswer;
 use reader::step::Stepped;
 use settings::settings::number;

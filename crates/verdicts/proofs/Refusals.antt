@@ -38,19 +38,19 @@ use Rattle.decoder.proofs.ExtLaws.{code-exactly}
 use Rattle.deframer.specs.Deframed.{inputOk, framed}
 use Rattle.deframer.specs.Statements.{RightBit}
 use Rattle.deframer.proofs.Framing.{T-true, framed-exactly, right-ok}
-use Rattle.reader.specs.declared.state.OpenSettings.{OpenSettings}
-use Rattle.reader.specs.declared.state.Reader.{Reader}
-use Rattle.reader.specs.declared.state.Started.{Started}
+use Rattle.reader_state.specs.declared.state.OpenSettings.{OpenSettings}
+use Rattle.reader_state.specs.declared.state.Reader.{Reader}
+use Rattle.reader_state.specs.declared.state.Started.{Started}
 use Rattle.reader.specs.declared.step.StepAnswer.{StepAnswer}
 use Rattle.reader.specs.declared.step.StepAnswer.the-variants.{First, Next, BadPoint, Refused as StepRefused}
 use Rattle.reader.specs.declared.step.Stepped.{Stepped}
-use Rattle.reader.specs.declared.place.PlaceAnswer.{PlaceAnswer}
-use Rattle.reader.specs.declared.place.PlaceAnswer.the-variants.{Passed, Found, Refused as PlaceRefused}
-use Rattle.reader.specs.State.{InRange, openRaw, startBy, startOf, startNumber, historyOf, firstBit, closedOf, endedOf}
+use Rattle.reader_place.specs.declared.place.PlaceAnswer.{PlaceAnswer}
+use Rattle.reader_place.specs.declared.place.PlaceAnswer.the-variants.{Passed, Found, Refused as PlaceRefused}
+use Rattle.reader_state.specs.State.{InRange, openRaw, startBy, startOf, startNumber, historyOf, firstBit, closedOf, endedOf}
 use Rattle.reader.specs.Step.{answered, scramblerFor, plainOf, frameRight, partLeft, intoBy, movedWith, historiesAfter, heardInput, bySearch, noRoom, stepBy, stepOf, stepInto, writtenBy, stepNumber, stepStream, stepSubcarrier}
-use Rattle.reader.specs.Place.{foundAs, placeBy, placeOf}
+use Rattle.reader_place.specs.Place.{foundAs, placeBy, placeOf}
 use Rattle.verdicts.specs.Statements.{settingsIn, InReach, ClosedRow, RoomRow, PointRow, shownIn, inputIn, CodeRow, WrongBit, FrameRow, StepRefusals, FirstPlace, PlaceIsFirst, RefusedUnchanged, RefusedState, StartRefusals, PlaceTied}
-use Rattle.reader.proofs.StateLaws.{in-range, not-closed}
+use Rattle.reader_state.proofs.StateLaws.{in-range, not-closed}
 
 -- the tests that a row does not apply
 negated : {P : Type 0} (t : Bool) → (t ≡ true) ↔ P → (not t ≡ true) ↔ (P → ⊥)

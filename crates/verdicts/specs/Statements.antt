@@ -18,13 +18,13 @@ use Rattle.demapper.specs.Demapped.{shownBit, PointByRules}
 use Rattle.decoder.specs.Statements.{SomeInputs}
 use Rattle.deframer.specs.Deframed.{payloadBefore}
 use Rattle.deframer.specs.Statements.{RightBit}
-use Rattle.reader.specs.declared.state.OpenSettings.{OpenSettings}
-use Rattle.reader.specs.declared.state.Reader.{Reader}
+use Rattle.reader_state.specs.declared.state.OpenSettings.{OpenSettings}
+use Rattle.reader_state.specs.declared.state.Reader.{Reader}
 use Rattle.reader.specs.declared.step.StepAnswer.the-variants.{BadPoint}
-use Rattle.reader.specs.declared.place.PlaceAnswer.the-variants.{Found}
-use Rattle.reader.specs.State.{InRange, openRaw, startOf, startNumber, historyOf, firstBit, endedOf}
+use Rattle.reader_place.specs.declared.place.PlaceAnswer.the-variants.{Found}
+use Rattle.reader_state.specs.State.{InRange, openRaw, startOf, startNumber, historyOf, firstBit, endedOf}
 use Rattle.reader.specs.Step.{scramblerFor, plainOf, heardInput, stepOf, stepInto, stepNumber}
-use Rattle.reader.specs.Place.{placeOf}
+use Rattle.reader_place.specs.Place.{placeOf}
 
 -- ---- refusals: each "given exactly when" its row applies and none tested before it does; 0 where none applies
 

@@ -5,7 +5,7 @@ use denote.Ref.{now}
 use lib.IntN.{pos}
 use mir.Syntax.{w64}
 use mir.Facts.{toZ-pos}
-use Rattle.reader.specs.declared.state.OpenSettings.{OpenSettings}
+use Rattle.reader_state.specs.declared.state.OpenSettings.{OpenSettings}
 use Rattle.reader_numbers.proofs.NumberLaws.{place-none, place-some, place-right}
 use borrow.Author.Needs.{needs}
 use Rattle.capi.proofs.ht_reader_place.Statement.{statement}

@@ -1,13 +1,13 @@
-use Rattle.reader.specs.declared.state.OpenSettings.{OpenSettings}
+use Rattle.reader_state.specs.declared.state.OpenSettings.{OpenSettings}
 use Rattle.reader_numbers.specs.Numbers.{openOf, readerOf, PlaceRight}
-use Rattle.reader.specs.declared.state.StartAnswer.the-variants.{Ready, Refused as StartRefused}
+use Rattle.reader_state.specs.declared.state.StartAnswer.the-variants.{Ready, Refused as StartRefused}
 use mathlib.Core.Path.{_≡_, _∙_, refl, sym, ap, subst}
 use native.Mathlib.Omega.{arith}
 use denote.Ref.{now}
 use lib.IntN.{pos}
 use mir.Syntax.{w64}
 use mir.Facts.{toZ-pos}
-use Rattle.reader.specs.State.{startOf}
+use Rattle.reader_state.specs.State.{startOf}
 use Rattle.reader_numbers.proofs.NumberLaws.{start-small, started-as}
 use borrow.Author.Needs.{needs}
 use Rattle.capi.proofs.ht_reader_start.Statement.{statement}

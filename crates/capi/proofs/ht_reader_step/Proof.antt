@@ -1,4 +1,4 @@
-use Rattle.reader.specs.declared.state.OpenSettings.{OpenSettings}
+use Rattle.reader_state.specs.declared.state.OpenSettings.{OpenSettings}
 use Rattle.reader_numbers.specs.Numbers.{openOf, readerOf, PlaceRight}
 use Prim.Native.Nat.{_+_, _*_, _%_}
 use mathlib.Core.Path.{_≡_, _∙_, refl, sym, ap, subst}

@@ -3,7 +3,7 @@ use mathlib.Core.Path.{_≡_, _∙_, refl, sym, ap, subst}
 use native.Mathlib.Omega.{arith}
 use mathlib.Core.Bool.{Bool, _&&_}
 use lib.Dec.{ltb}
-use Rattle.reader.proofs.StateLaws.{bits-near, symbol-few}
+use Rattle.reader_state.proofs.StateLaws.{bits-near, symbol-few}
 use Rattle.reader.proofs.StepLaws.{framed-asked, framed-by}
 use borrow.Author.Needs.{needs}
 use Rattle.reader.proofs.step.is_right.Statement.{statement}

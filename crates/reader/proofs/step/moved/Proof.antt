@@ -1,6 +1,6 @@
 use mathlib.Core.Path.{_≡_, _∙_, refl, sym, ap, subst}
 use native.Mathlib.Omega.{arith}
-use Rattle.reader.proofs.StateLaws.{symbol-few}
+use Rattle.reader_state.proofs.StateLaws.{symbol-few}
 use Rattle.reader.proofs.StepLaws.{moved-by}
 use borrow.Author.Needs.{needs}
 use Rattle.reader.proofs.step.moved.Statement.{statement}

@@ -1,7 +1,7 @@
 use denote.Ref.{now}
 use mathlib.Core.Path.{_≡_, _∙_, refl, sym, ap, subst}
 use native.Mathlib.Omega.{arith}
-use Rattle.reader.proofs.StateLaws.{bits-near, symbol-few}
+use Rattle.reader_state.proofs.StateLaws.{bits-near, symbol-few}
 use Rattle.reader.proofs.StepLaws.{bytes-by, left-by}
 use borrow.Author.Needs.{needs}
 use Rattle.reader.proofs.step.put_bytes.Statement.{statement}

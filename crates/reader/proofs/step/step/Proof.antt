@@ -1,11 +1,11 @@
 use Rattle.reader.proofs.HearLaws.{room-by, room-found}
-use Rattle.reader.specs.State.{openRaw, closedOf}
+use Rattle.reader_state.specs.State.{openRaw, closedOf}
 use Rattle.settings.specs.declared.settings.Checked.the-variants.{Accepted}
 use mathlib.Core.Path.{_≡_, _∙_, refl, sym, ap, subst}
 use native.Mathlib.Omega.{arith}
 use denote.Ref.{now}
 use Rattle.reader.proofs.HearLaws.{step-as, step-by}
-use Rattle.reader.proofs.StateLaws.{open-right, in-range}
+use Rattle.reader_state.proofs.StateLaws.{open-right, in-range}
 use Rattle.settings.specs.Settings.{checkOf}
 use mathlib.Core.Bool.{Bool, true, false, _||_}
 use lib.Dec.{ltb}

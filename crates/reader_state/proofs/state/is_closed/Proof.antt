@@ -5,10 +5,10 @@ use borrow.Author.Tests.{leb-false}
 use lib.Dec.{leb}
 use Rattle.laws.proofs.Reflect.{or-false}
 use Rattle.settings.specs.Symbols.{symbolsOf}
-use Rattle.reader.proofs.StateLaws.{closed-past, closed-by, symbol-few}
+use Rattle.reader_state.proofs.StateLaws.{closed-past, closed-by, symbol-few}
 use borrow.Author.Needs.{needs}
-use Rattle.reader.proofs.state.is_closed.Statement.{statement}
-use Rattle.reader.proofs.state.is_closed.Tie as tie
+use Rattle.reader_state.proofs.state.is_closed.Statement.{statement}
+use Rattle.reader_state.proofs.state.is_closed.Tie as tie
 
 -- the first test, with the count by its definition
 past : (c : tie.Then1) → let a = c .before .before in (a .args .t1 .ended || leb (symbolsOf (a .args .s)) (a .args .t1 .symbol)) ≡ true

@@ -15,10 +15,10 @@ use Rattle.frame.specs.Points.{floatsOf}
 use Rattle.demapper.specs.declared.search.Search.{Search}
 use Rattle.demapper.specs.declared.search.Search.the-variants.{AllGiven, At}
 use Rattle.demapper.specs.Demapped.{searchOf}
-use Rattle.reader.specs.declared.state.Reader.{Reader}
-use Rattle.reader.specs.declared.place.PlaceAnswer.{PlaceAnswer}
-use Rattle.reader.specs.declared.place.PlaceAnswer.the-variants.{Passed, Found, Refused as PlaceRefused}
-use Rattle.reader.specs.State.{openRaw, closedOf}
+use Rattle.reader_state.specs.declared.state.Reader.{Reader}
+use Rattle.reader_place.specs.declared.place.PlaceAnswer.{PlaceAnswer}
+use Rattle.reader_place.specs.declared.place.PlaceAnswer.the-variants.{Passed, Found, Refused as PlaceRefused}
+use Rattle.reader_state.specs.State.{openRaw, closedOf}
 
 -- the place in the frame's own terms
 abbrev pub foundAs : Search → Settings → PlaceAnswer

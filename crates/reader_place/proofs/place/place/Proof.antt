@@ -3,8 +3,9 @@ use mir.Val.{toZ, ofZ}
 use mathlib.Core.Path.{_≡_, _∙_, refl, sym, ap, subst}
 use native.Mathlib.Omega.{arith}
 use denote.Ref.{now}
-use Rattle.reader.proofs.HearLaws.{place-as, place-by, points-asked, search-by, place-few, stream-few}
-use Rattle.reader.proofs.StateLaws.{open-right, in-range}
+use Rattle.reader_place.proofs.PlaceLaws.{place-as, place-by}
+use Rattle.reader.proofs.HearLaws.{points-asked, search-by, place-few, stream-few}
+use Rattle.reader_state.proofs.StateLaws.{open-right, in-range}
 use mathlib.Core.Bool.{Bool, true, false}
 use borrow.Author.Tests.{ltb-false}
 use lib.Dec.{ltb}
@@ -12,13 +13,12 @@ use lib.ListN.{length}
 use Prim.Native.Nat.{ℕ}
 use Rattle.settings.specs.Settings.{checkOf, planFor}
 use Rattle.frame.specs.Points.{floatsOf}
-use Rattle.reader.specs.State.{openRaw, closedOf}
+use Rattle.reader_state.specs.State.{openRaw, closedOf}
 use Rattle.settings.specs.declared.settings.Checked.the-variants.{Accepted}
-use Rattle.reader.specs.declared.place.PlaceAnswer.the-variants.{Found}
-use mathlib.Core.List.{[]}
+use Rattle.reader_place.specs.declared.place.PlaceAnswer.the-variants.{Found}
 use borrow.Author.Needs.{needs}
-use Rattle.reader.proofs.place.place.Statement.{statement}
-use Rattle.reader.proofs.place.place.Tie as tie
+use Rattle.reader_place.proofs.place.place.Statement.{statement}
+use Rattle.reader_place.proofs.place.place.Tie as tie
 
 -- the settings of the state are accepted
 settings : (c : tie.After-known-told) → Accepted (c .before .checked .given .0 .0) ≡ checkOf (openRaw (c .before .before .before .before .before .before .before .args .reader .settings))
@@ -44,7 +44,7 @@ returns : tie.Need-returns
 returns c =
     let k = c .before .before in
     let a = c .before .before .before .before .before .before in
-    place-as (a .args .reader) (now (a .args .points)) [] _ (sym (c .enum-told .given .1) ∙ k .check .ensures ∙ ap checkOf (k .before .raw-of .ensures)) _ refl
+    place-as (a .args .reader) (now (a .args .points)) _ (sym (c .enum-told .given .1) ∙ k .check .ensures ∙ ap checkOf (k .before .raw-of .ensures)) _ refl
 
 is-closed-requires : tie.Need-is-closed-requires
 is-closed-requires c κs = open-right (c .before .before .before .before .before .before .before .args .reader) (c .before .checked .given .0 .0) (settings c)
@@ -53,7 +53,7 @@ returns-2 : tie.Need-returns-2
 returns-2 c =
     let k = c .before .before in
     let a = c .before .before .before .before .before .before .before .before .before in
-    place-as (a .args .reader) (now (a .args .points)) [] _ (settings k) _ (place-by (k .before .checked .given .0 .0) (a .args .reader) (now (a .args .points)) true _ (sym (c .if1 .taken) ∙ c .before .is-closed .ensures) refl _ refl)
+    place-as (a .args .reader) (now (a .args .points)) _ (settings k) _ (place-by (k .before .checked .given .0 .0) (a .args .reader) (now (a .args .points)) true _ (sym (c .if1 .taken) ∙ c .before .is-closed .ensures) refl _ refl)
 
 floats-of-requires : tie.Need-floats-of-requires
 floats-of-requires c κs = let k = c .before .before in open-right (k .before .before .before .before .before .before .before .args .reader) (k .before .checked .given .0 .0) (settings k)
@@ -62,7 +62,7 @@ returns-3 : tie.Need-returns-3
 returns-3 c =
     let k = c .before .before .before .before in
     let a = c .before .before .before .before .before .before .before .before .before .before .before in
-    place-as (a .args .reader) (now (a .args .points)) [] _ (settings k) _ (place-by (k .before .checked .given .0 .0) (a .args .reader) (now (a .args .points)) false true (going (c .before .before)) (sym (c .if2 .taken) ∙ ap (ltb (length (now (a .args .points)))) (c .before .floats-of .ensures .0)) _ refl)
+    place-as (a .args .reader) (now (a .args .points)) _ (settings k) _ (place-by (k .before .checked .given .0 .0) (a .args .reader) (now (a .args .points)) false true (going (c .before .before)) (sym (c .if2 .taken) ∙ ap (ltb (length (now (a .args .points)))) (c .before .floats-of .ensures .0)) _ refl)
 
 slice-aggregate-symbol-bits : tie.Need-slice-aggregate-symbol-bits
 slice-aggregate-symbol-bits c = search needs
@@ -107,7 +107,7 @@ returns-4 c =
     let k = c .before .before .before .before .before .before .before .before .before .before in
     let a = c .before .before .before .before .before .before .before .before .before .before .before .before .before .before .before .before .before in
     let s = k .before .checked .given .0 .0 in
-    place-as (a .args .reader) (now (a .args .points)) [] _ (settings k) _ (place-by s (a .args .reader) (now (a .args .points)) false false (going (c .before .before .before .before .before .before .before .before)) (sym (c .before .before .before .before .before .before .if2 .left) ∙ ap (ltb (length (now (a .args .points)))) (c .before .before .before .before .before .before .before .floats-of .ensures .0)) _
+    place-as (a .args .reader) (now (a .args .points)) _ (settings k) _ (place-by s (a .args .reader) (now (a .args .points)) false false (going (c .before .before .before .before .before .before .before .before)) (sym (c .before .before .before .before .before .before .if2 .left) ∙ ap (ltb (length (now (a .args .points)))) (c .before .before .before .before .before .before .before .floats-of .ensures .0)) _
     (sym (c .enum-told2 .given .1) ∙ search-by s (a .args .reader) (c .before .before .before .before .plan-of .result) (c .before .before .before .before .plan-of .ensures) (now (a .args .points)) _ (c .before .before .before .symbol-bits .ensures .0)))
 
 returns-5 : tie.Need-returns-5
@@ -116,7 +116,7 @@ returns-5 c =
     let a = c .before .before .before .before .before .before .before .before .before .before .before .before .before .before .before .before .before .before .before in
     let s = k .before .checked .given .0 .0 in
     ap (Found (c .before .before .found .given .0 .0)) {x = toZ w32 (ofZ w32 (c .subcarrier-of .result))} (search needs ∙ c .subcarrier-of .ensures)
-    ∙ place-as (a .args .reader) (now (a .args .points)) [] (Accepted s) (settings k) _ (place-by s (a .args .reader) (now (a .args .points)) false false (going (c .before .before .before .before .before .before .before .before .before .before)) (sym (c .before .before .before .before .before .before .before .before .if2 .left) ∙ ap (ltb (length (now (a .args .points)))) (c .before .before .before .before .before .before .before .before .before .floats-of .ensures .0)) _
+    ∙ place-as (a .args .reader) (now (a .args .points)) (Accepted s) (settings k) _ (place-by s (a .args .reader) (now (a .args .points)) false false (going (c .before .before .before .before .before .before .before .before .before .before)) (sym (c .before .before .before .before .before .before .before .before .if2 .left) ∙ ap (ltb (length (now (a .args .points)))) (c .before .before .before .before .before .before .before .before .before .floats-of .ensures .0)) _
     (sym (c .before .before .found .given .1) ∙ search-by s (a .args .reader) (c .before .before .before .before .before .before .plan-of .result) (c .before .before .before .before .before .before .plan-of .ensures) (now (a .args .points)) _ (c .before .before .before .before .before .symbol-bits .ensures .0)))
 
 pub place-spec : {M : Type 1} → statement M

@@ -13,11 +13,11 @@ use Rattle.settings.specs.declared.settings.Checked.the-variants.{Accepted, Ref
 use Rattle.settings.specs.Settings.{numberOf, checkOf, planFor}
 use Rattle.settings.specs.Symbols.{symbolsOf}
 use Rattle.deframer.specs.Deframed.{payloadBefore}
-use Rattle.reader.specs.declared.state.OpenSettings.{OpenSettings}
-use Rattle.reader.specs.declared.state.Reader.{Reader}
-use Rattle.reader.specs.declared.state.StartAnswer.{StartAnswer}
-use Rattle.reader.specs.declared.state.StartAnswer.the-variants.{Ready, Refused as StartRefused}
-use Rattle.reader.specs.declared.state.Started.{Started}
+use Rattle.reader_state.specs.declared.state.OpenSettings.{OpenSettings}
+use Rattle.reader_state.specs.declared.state.Reader.{Reader}
+use Rattle.reader_state.specs.declared.state.StartAnswer.{StartAnswer}
+use Rattle.reader_state.specs.declared.state.StartAnswer.the-variants.{Ready, Refused as StartRefused}
+use Rattle.reader_state.specs.declared.state.Started.{Started}
 
 -- "The reader is started with settings without a seed": 1, which is never refused, stands for it
 abbrev pub openRaw : OpenSettings → RawSettings

@@ -1,11 +1,11 @@
 use mathlib.Core.Path.{_≡_, _∙_, sym, ap, subst}
 use Rattle.settings.specs.declared.settings.Checked.{Checked}
 use Rattle.settings.specs.Settings.{checkOf, IsRefused}
-use Rattle.reader.specs.declared.state.OpenSettings.{OpenSettings}
-use Rattle.reader.specs.State.{openRaw, startBy, startOf}
+use Rattle.reader_state.specs.declared.state.OpenSettings.{OpenSettings}
+use Rattle.reader_state.specs.State.{openRaw, startBy, startOf}
 use borrow.Author.Needs.{needs}
-use Rattle.reader.proofs.state.start.Statement.{statement}
-use Rattle.reader.proofs.state.start.Tie as tie
+use Rattle.reader_state.proofs.state.start.Statement.{statement}
+use Rattle.reader_state.proofs.state.start.Tie as tie
 
 -- the start by the settings' answer
 by-check : {x : Checked} (o : OpenSettings) → x ≡ checkOf (openRaw o) → startBy x o ≡ startOf o

@@ -1,7 +1,7 @@
 // The place of the first failing point, for a caller that a step has told of one.
-use crate::state::Reader;
-use crate::state::is_closed;
-use crate::state::raw_of;
+use reader_state::state::Reader;
+use reader_state::state::is_closed;
+use reader_state::state::raw_of;
 use demapper::search::Search;
 use demapper::search::symbol_bits;
 use frame::points::floats_of;
@@ -11,7 +11,7 @@ use settings::settings::check;
 use settings::settings::plan_of;
 use subcarriers::layout::subcarrier_of;
 ghost use mathlib.Core.Path.{_≡_};
-ghost use Rattle.reader.specs.Place.{placeOf};
+ghost use Rattle.reader_place.specs.Place.{placeOf};
 
 // Every point passes, or the first that does not: its stream and its subcarrier's own number.
 pub enum PlaceAnswer {

@@ -1,7 +1,7 @@
-use Rattle.reader.proofs.StateLaws.{powers}
+use Rattle.reader_state.proofs.StateLaws.{powers}
 use borrow.Author.Needs.{needs}
-use Rattle.reader.proofs.state.power.Statement.{statement}
-use Rattle.reader.proofs.state.power.Tie as tie
+use Rattle.reader_state.proofs.state.power.Statement.{statement}
+use Rattle.reader_state.proofs.state.power.Tie as tie
 
 array-read-result : tie.Need-array-read-result
 array-read-result c = search needs

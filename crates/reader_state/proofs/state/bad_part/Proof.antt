@@ -1,8 +1,8 @@
 use native.Mathlib.Omega.{arith}
-use Rattle.reader.proofs.StateLaws.{bits-near, part-by}
+use Rattle.reader_state.proofs.StateLaws.{bits-near, part-by}
 use borrow.Author.Needs.{needs}
-use Rattle.reader.proofs.state.bad_part.Statement.{statement}
-use Rattle.reader.proofs.state.bad_part.Tie as tie
+use Rattle.reader_state.proofs.state.bad_part.Statement.{statement}
+use Rattle.reader_state.proofs.state.bad_part.Tie as tie
 
 plan-of-requires : tie.Need-plan-of-requires
 plan-of-requires c κs = search needs

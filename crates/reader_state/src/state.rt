@@ -12,7 +12,7 @@ ghost use mathlib.Core.Path.{_≡_};
 ghost use Prim.Native.Nat.{_%_, _^_, _<_};
 ghost use Rattle.settings.specs.Settings.{Right};
 ghost use Rattle.deframer.specs.Deframed.{payloadBefore};
-ghost use Rattle.reader.specs.State.{openRaw, startOf, badScrambler, badPart, closedOf, endedOf};
+ghost use Rattle.reader_state.specs.State.{openRaw, startOf, badScrambler, badPart, closedOf, endedOf};
 
 // Settings without a seed, as wide as any caller has them.
 pub struct OpenSettings {
@@ -51,7 +51,7 @@ pub struct Started {
     pub state: Reader,
 }
 
-pub(crate) fn raw_of(o: OpenSettings) -> RawSettings
+pub fn raw_of(o: OpenSettings) -> RawSettings
     ensures { λ r. ⌜ r ≡ openRaw o ⌝ }
 {
     RawSettings {
@@ -125,7 +125,7 @@ fn bad_part(s: Settings, symbol: u64, part: u8) -> bool
 }
 
 // Whether a state is finished, ended or outside its ranges, its settings being accepted.
-pub(crate) fn is_closed(reader: Reader, s: Settings) -> bool
+pub fn is_closed(reader: Reader, s: Settings) -> bool
     requires { ⌜ Right s ⌝ }
     ensures { λ c. ⌜ c ≡ closedOf s reader ⌝ }
 {
@@ -138,7 +138,7 @@ pub(crate) fn is_closed(reader: Reader, s: Settings) -> bool
 }
 
 // The state given, its end marked.
-pub(crate) fn ended(reader: Reader) -> Reader
+pub fn ended(reader: Reader) -> Reader
     ensures { λ e. ⌜ e ≡ endedOf reader ⌝ }
 {
     let mut e = reader;
