@@ -13,8 +13,9 @@ use Rattle.laws.specs.Test.{below, below-at, below-of}
 use Rattle.laws.proofs.Reflect.{eqb-of}
 use Rattle.chain.specs.Decoder.{codedAfter, forcedInput, inputsOf, checks}
 use Rattle.chain.proofs.Counts.{encoders-some, encoders-most}
+use Rattle.forcing.specs.Asked.{GroupsRight, EncoderAsked, EncoderDone}
 use Rattle.decoder.specs.Decoded.{historiesIn}
-use Rattle.decoder.specs.Asked.{GroupsRight, EncoderAsked, EncoderDone, EncodersAsked, EncodersDone}
+use Rattle.decoder.specs.Asked.{EncodersAsked, EncodersDone}
 
 -- tests that pass together are one
 same-test : (a b : Bool) → (T a → T b) → (T b → T a) → a ≡ b

@@ -22,8 +22,10 @@ use Rattle.chain.proofs.Window.{share-is}
 use Rattle.chain.proofs.Inverse.{forced-history}
 use Rattle.chain.proofs.Dealing.{history-ext}
 use Rattle.chain.proofs.ParserLaws.{parses}
-use Rattle.decoder.specs.Decoded.{bitsIn, historyMoved, SymbolAsked}
-use Rattle.decoder.specs.Asked.{codedOf, Placed, EncodersAsked, EncodersDone}
+use Rattle.deinterleaver.specs.Deinterleaved.{bitsIn, codedOf}
+use Rattle.deinterleaver.specs.Asked.{Placed}
+use Rattle.decoder.specs.Decoded.{historyMoved, SymbolAsked}
+use Rattle.decoder.specs.Asked.{EncodersAsked, EncodersDone}
 use Rattle.decoder.proofs.ExtLaws.{forced-history-ext, inputs-ext, checks-ext}
 
 -- what is dealt to an encoder

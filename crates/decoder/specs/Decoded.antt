@@ -1,16 +1,12 @@
 -- A symbol's inputs out of its label bits (document 01 steps 2 to 5 undone; the decoder's definitions are the chain's), as the code holds them.
 use mathlib.Core.Bool.{cond}
 use mathlib.Core.List.{List}
-use Prim.Native.Nat.{ℕ, _+_, _-_, _*_, _<_, _≤_}
+use Prim.Native.Nat.{ℕ, _-_, _*_, _<_, _≤_}
 use lib.Dec.{ltb}
 use lib.ListN.{length, getD}
 use Rattle.chain.specs.declared.plan.Plan.{Plan}
 use Rattle.chain.specs.Plan.{groupsOf, Fits}
 use Rattle.chain.specs.Decoder.{historyAfter, dealt}
-
--- bit r of stream i's block in a list of all streams' label bits, stream by stream
-abbrev pub bitsIn : (p : Plan) (bits : List ℕ) (i r : ℕ) → ℕ
-bitsIn p bits i r = getD bits (i * p .block + r) 0
 
 -- histories by encoder number
 abbrev pub historiesIn : (histories : List ℕ) (j : ℕ) → ℕ

@@ -1,3 +1,2 @@
-// A symbol's inputs out of its label bits: interleaver, parser, puncturing and encoders undone. Document 01, 'From payload to points', steps 2 to 5.
-pub mod coded;
+// A symbol's inputs out of its label bits, all encoders together. Document 01, 'From payload to points', steps 2 to 5 undone.
 pub mod forced;

@@ -12,7 +12,7 @@ ghost use Rattle.deframer.specs.Deframed.{plainBit, framed, PlainAsked, 
 ghost use Rattle.deframer.specs.Asked.{TakeOffAsked, Counted};
 
 // Four bits as a number, the first the lowest.
-pub(crate) fn nibble(a: u8, b: u8, c: u8, d: u8) -> u8
+pub fn nibble(a: u8, b: u8, c: u8, d: u8) -> u8
     requires { ⌜ (a < 2) × (b < 2) × (c < 2) × (d < 2) ⌝ }
     ensures { λ r. ⌜ (r ≡ a + 2 * b + 4 * c + 8 * d) × (r < 16) ⌝ }
 {

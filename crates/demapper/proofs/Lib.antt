@@ -1,5 +1,3 @@
 pub mod FirstLaws
 pub mod LabelLaws
 pub mod PointLaws
-pub mod UseLaws
-pub mod SearchLaws

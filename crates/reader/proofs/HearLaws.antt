@@ -26,11 +26,12 @@ use Rattle.settings.proofs.SettingsLaws.{plan-fits, planned-width}
 use Rattle.subcarriers.specs.Subcarriers.{placesOf, subcarrierAt}
 use Rattle.pilots.proofs.PilotLaws.{streams-range}
 use Rattle.frame.specs.Points.{floatsOf}
-use Rattle.demapper.specs.declared.search.Search.{Search}
-use Rattle.demapper.specs.declared.search.Search.the-variants.{AllGiven, At}
-use Rattle.demapper.specs.Demapped.{pointGiven, searchOf, shownBit}
-use Rattle.demapper.specs.Asked.{BitsShown, SymbolAsked as SymbolBitsAsked}
-use Rattle.decoder.specs.Decoded.{bitsIn, historyMoved, SymbolAsked}
+use Rattle.detector.specs.declared.search.Search.{Search}
+use Rattle.detector.specs.declared.search.Search.the-variants.{AllGiven, At}
+use Rattle.detector.specs.Detected.{pointGiven, searchOf, shownBit}
+use Rattle.detector.specs.Asked.{BitsShown, SymbolAsked as SymbolBitsAsked}
+use Rattle.decoder.specs.Decoded.{historyMoved, SymbolAsked}
+use Rattle.deinterleaver.specs.Deinterleaved.{bitsIn}
 use Rattle.decoder.proofs.ExtLaws.{decoded-ext, decodes-ext, moved-ext}
 use Rattle.reader_state.specs.declared.state.Reader.{Reader}
 use Rattle.reader.specs.declared.step.StepAnswer.{StepAnswer}

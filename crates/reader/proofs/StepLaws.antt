@@ -21,10 +21,11 @@ use Rattle.settings.specs.declared.settings.Refusal.the-variants.{Frame, Code}
 use Rattle.settings.specs.Settings.{planFor, Right}
 use Rattle.settings.specs.Symbols.{symbolsOf}
 use Rattle.settings.proofs.SettingsLaws.{plan-fits}
-use Rattle.deframer.specs.Deframed.{plainBit, framed, payloadBefore, byteOf, partOf, knownBit, PlainAsked, FramedAsked, PayloadAsked}
-use Rattle.deframer.proofs.Packing.{packed-ext}
+use Rattle.deframer.specs.Deframed.{plainBit, framed, PlainAsked, FramedAsked}
+use Rattle.assembler.specs.Assembled.{payloadBefore, byteOf, partOf, knownBit, PayloadAsked}
+use Rattle.assembler.proofs.Packing.{packed-ext}
 use Rattle.deframer.proofs.Framing.{framed-ext}
-use Rattle.deframer.proofs.KnownBits.{known-ext}
+use Rattle.assembler.proofs.KnownBits.{known-ext}
 use Rattle.reader_state.specs.declared.state.Reader.{Reader}
 use Rattle.reader.specs.declared.step.StepAnswer.{StepAnswer}
 use Rattle.reader.specs.declared.step.StepAnswer.the-variants.{First, Next, BadPoint, Refused as StepRefused}

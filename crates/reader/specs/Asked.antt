@@ -9,7 +9,8 @@ use Rattle.settings.specs.declared.settings.Settings.{Settings}
 use Rattle.settings.specs.Settings.{planFor, Right}
 use Rattle.settings.specs.Symbols.{symbolsOf}
 use Rattle.frame.specs.Points.{floatsOf}
-use Rattle.deframer.specs.Deframed.{framed, PayloadAsked}
+use Rattle.deframer.specs.Deframed.{framed}
+use Rattle.assembler.specs.Assembled.{PayloadAsked}
 use Rattle.reader_state.specs.declared.state.Reader.{Reader}
 use Rattle.reader.specs.declared.step.Stepped.{Stepped}
 use Rattle.reader_state.specs.State.{InRange, firstBit}

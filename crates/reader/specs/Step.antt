@@ -18,11 +18,12 @@ use Rattle.settings.specs.Settings.{numberOf, checkOf, planFor}
 use Rattle.settings.specs.Symbols.{symbolsOf}
 use Rattle.subcarriers.specs.Subcarriers.{subcarrierAt}
 use Rattle.frame.specs.Points.{floatsOf}
-use Rattle.demapper.specs.declared.search.Search.{Search}
-use Rattle.demapper.specs.declared.search.Search.the-variants.{AllGiven, At}
-use Rattle.demapper.specs.Demapped.{searchOf, shownBit}
+use Rattle.detector.specs.declared.search.Search.{Search}
+use Rattle.detector.specs.declared.search.Search.the-variants.{AllGiven, At}
+use Rattle.detector.specs.Detected.{searchOf, shownBit}
 use Rattle.decoder.specs.Decoded.{historyMoved}
-use Rattle.deframer.specs.Deframed.{plainBit, framed, payloadBefore, byteOf, partOf, knownBit}
+use Rattle.deframer.specs.Deframed.{plainBit, framed}
+use Rattle.assembler.specs.Assembled.{payloadBefore, byteOf, partOf, knownBit}
 use Rattle.reader_state.specs.declared.state.Reader.{Reader}
 use Rattle.reader.specs.declared.step.StepAnswer.{StepAnswer}
 use Rattle.reader.specs.declared.step.StepAnswer.the-variants.{First, Next, BadPoint, Refused as StepRefused}

@@ -1,16 +1,16 @@
 // One step of the reader: a symbol's points, its label bits, its inputs, its data bits, its bytes.
-use reader_state::state::Reader;
-use reader_state::state::ended;
-use reader_state::state::is_closed;
-use reader_state::state::raw_of;
+use assembler::bytes::put_payload;
 use decoder::forced::symbol_inputs;
 use deframer::bits::descramble;
 use deframer::bits::is_framed;
 use deframer::bits::seed_of;
-use deframer::bytes::put_payload;
-use demapper::search::Search;
-use demapper::search::symbol_bits;
+use detector::search::Search;
+use detector::search::symbol_bits;
 use frame::points::floats_of;
+use reader_state::state::Reader;
+use reader_state::state::ended;
+use reader_state::state::is_closed;
+use reader_state::state::raw_of;
 use scrambler::register::jump;
 use settings::settings::Checked;
 use settings::settings::Refusal;
@@ -25,8 +25,8 @@ ghost use Prim.Native.Nat.{_<_};
 ghost use lib.Dec.{ltb};
 ghost use lib.ListN.{length, getD};
 ghost use Rattle.settings.specs.Settings.{planFor};
-ghost use Rattle.demapper.specs.Demapped.{searchOf, shownBit};
-ghost use Rattle.decoder.specs.Decoded.{bitsIn};
+ghost use Rattle.detector.specs.Detected.{searchOf, shownBit};
+ghost use Rattle.deinterleaver.specs.Deinterleaved.{bitsIn};
 ghost use Rattle.reader.specs.Step.{scramblerFor, acceptedWith, movedWith, bytesLeft, partLeft, bytesInto, intoBy, byCode, heardInput, bySearch, stepOf, stepInto};
 ghost use Rattle.reader.specs.Asked.{bitsOf, framedIn, ScramblerAsked, MovedAsked, RightAsked, BytesAsked, FrameAsked, HeardInputs, LabelsAsked, PointsAsked};
 

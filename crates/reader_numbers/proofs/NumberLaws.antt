@@ -23,9 +23,9 @@ use Rattle.settings.proofs.SettingsLaws.{right, symbols-few}
 use Rattle.subcarriers.specs.Subcarriers.{subcarrierFrom, Inside, subcarrierAt, placesOf}
 use Rattle.subcarriers.proofs.SubcarrierLaws.{inside-wide, place-used-for}
 use Rattle.frame.specs.Points.{floatsOf}
-use Rattle.demapper.specs.declared.search.Search.{Search}
-use Rattle.demapper.specs.declared.search.Search.the-variants.{AllGiven, At}
-use Rattle.demapper.specs.Demapped.{searchOf, shownBit}
+use Rattle.detector.specs.declared.search.Search.{Search}
+use Rattle.detector.specs.declared.search.Search.the-variants.{AllGiven, At}
+use Rattle.detector.specs.Detected.{searchOf, shownBit}
 use Rattle.reader_state.specs.declared.state.OpenSettings.{OpenSettings}
 use Rattle.reader_state.specs.declared.state.Reader.{Reader}
 use Rattle.reader_state.specs.declared.state.StartAnswer.{StartAnswer}

@@ -1,10 +1,10 @@
 // The reader's settings, states and answers as the numbers of the C calls.
 use conversions::refused;
+use reader::step::StepAnswer;
+use reader::step::Stepped;
 use reader_place::place::PlaceAnswer;
 use reader_state::state::OpenSettings;
 use reader_state::state::Reader;
-use reader::step::StepAnswer;
-use reader::step::Stepped;
 use settings::settings::number;
 use signal::ht_sig::one;
 use subcarriers::layout::index;

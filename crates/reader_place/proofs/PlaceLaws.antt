@@ -11,8 +11,8 @@ use Rattle.settings.specs.declared.settings.Checked.{Checked}
 use Rattle.settings.specs.declared.settings.Checked.the-variants.{Accepted}
 use Rattle.settings.specs.Settings.{checkOf, planFor}
 use Rattle.frame.specs.Points.{floatsOf}
-use Rattle.demapper.specs.declared.search.Search.{Search}
-use Rattle.demapper.specs.Demapped.{searchOf}
+use Rattle.detector.specs.declared.search.Search.{Search}
+use Rattle.detector.specs.Detected.{searchOf}
 use Rattle.reader_state.specs.declared.state.Reader.{Reader}
 use Rattle.reader_state.specs.State.{openRaw, closedOf}
 use Rattle.reader_place.specs.declared.place.PlaceAnswer.{PlaceAnswer}

@@ -12,9 +12,9 @@ use Rattle.settings.specs.declared.settings.Checked.the-variants.{Accepted, Ref
 use Rattle.settings.specs.Settings.{numberOf, checkOf, planFor}
 use Rattle.subcarriers.specs.Subcarriers.{subcarrierAt}
 use Rattle.frame.specs.Points.{floatsOf}
-use Rattle.demapper.specs.declared.search.Search.{Search}
-use Rattle.demapper.specs.declared.search.Search.the-variants.{AllGiven, At}
-use Rattle.demapper.specs.Demapped.{searchOf}
+use Rattle.detector.specs.declared.search.Search.{Search}
+use Rattle.detector.specs.declared.search.Search.the-variants.{AllGiven, At}
+use Rattle.detector.specs.Detected.{searchOf}
 use Rattle.reader_state.specs.declared.state.Reader.{Reader}
 use Rattle.reader_place.specs.declared.place.PlaceAnswer.{PlaceAnswer}
 use Rattle.reader_place.specs.declared.place.PlaceAnswer.the-variants.{Passed, Found, Refused as PlaceRefused}

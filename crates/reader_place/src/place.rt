@@ -1,10 +1,10 @@
 // The place of the first failing point, for a caller that a step has told of one.
+use detector::search::Search;
+use detector::search::symbol_bits;
+use frame::points::floats_of;
 use reader_state::state::Reader;
 use reader_state::state::is_closed;
 use reader_state::state::raw_of;
-use demapper::search::Search;
-use demapper::search::symbol_bits;
-use frame::points::floats_of;
 use settings::settings::Checked;
 use settings::settings::Refusal;
 use settings::settings::check;

@@ -18,7 +18,7 @@ use Rattle.settings.specs.declared.settings.Checked.the-variants.{Accepted, Ref
 use Rattle.settings.specs.Settings.{checkOf, planFor, Right}
 use Rattle.settings.specs.Symbols.{symbolsOf}
 use Rattle.settings.proofs.SettingsLaws.{right, plan-fits, symbols-few}
-use Rattle.deframer.specs.Deframed.{payloadBefore}
+use Rattle.assembler.specs.Assembled.{payloadBefore}
 use Rattle.reader_state.specs.declared.state.Reader.{Reader}
 use Rattle.reader_state.specs.State.{InRange, openRaw, historyOf, firstBit, badScrambler, badPart, closedOf}
 

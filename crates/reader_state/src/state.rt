@@ -1,5 +1,5 @@
 // The reader's state, its start, and whether a state is closed.
-use deframer::bytes::payload_before;
+use assembler::bytes::payload_before;
 use settings::settings::Checked;
 use settings::settings::RawSettings;
 use settings::settings::Refusal;
@@ -11,7 +11,7 @@ use settings::symbols::symbols_of;
 ghost use mathlib.Core.Path.{_≡_};
 ghost use Prim.Native.Nat.{_%_, _^_, _<_};
 ghost use Rattle.settings.specs.Settings.{Right};
-ghost use Rattle.deframer.specs.Deframed.{payloadBefore};
+ghost use Rattle.assembler.specs.Assembled.{payloadBefore};
 ghost use Rattle.reader_state.specs.State.{openRaw, startOf, badScrambler, badPart, closedOf, endedOf};
 
 // Settings without a seed, as wide as any caller has them.

@@ -31,13 +31,14 @@ use Rattle.subcarriers.proofs.SubcarrierLaws.{place-used-for}
 use Rattle.pilots.specs.Pilots.{pilotSign}
 use Rattle.modulator.specs.Symbol.{turnedIf, sentLevels, axisLevel, streamFloats}
 use Rattle.modulator.proofs.SymbolLaws.{sent-used, symbol-at, symbol-ext}
-use Rattle.demapper.specs.declared.search.Search.the-variants.{AllGiven, At}
-use Rattle.demapper.specs.Demapped.{sameBits, levelLabel, negatedLabel, firstLabel, secondLabel, dataGiven, bitOfLabel, pointBit, floatAt, usedGiven, pointGiven, foundAt, searchOf, carrierPlaceOf, shownBit, GivenByRules, PointByRules}
+use Rattle.detector.specs.declared.search.Search.the-variants.{AllGiven, At}
+use Rattle.demapper.specs.Demapped.{sameBits, levelLabel, negatedLabel, firstLabel, secondLabel, dataGiven, bitOfLabel, pointBit}
+use Rattle.detector.specs.Detected.{floatAt, usedGiven, pointGiven, foundAt, searchOf, carrierPlaceOf, shownBit, GivenByRules, PointByRules}
 use Rattle.verdicts.specs.Searches.{AllPass, FirstFailing, FloatsOf, ShownBack}
 use Rattle.demapper.proofs.FirstLaws.{Passing, NonePasses, first-cases}
 use Rattle.demapper.proofs.LabelLaws.{level-found, negated-found}
 use Rattle.demapper.proofs.PointLaws.{axis-one, axis-two, first-bits, second-bits}
-use Rattle.demapper.proofs.SearchLaws.{carrier-place-in, carrier-place-use, point-bit, given-as, shown-at, carrier-of}
+use Rattle.detector.proofs.SearchLaws.{carrier-place-in, carrier-place-use, point-bit, given-as, shown-at, carrier-of}
 
 -- ---- a point of the constellation
 -- the levels of two labels of s bits; the second is 0 where there is one level only

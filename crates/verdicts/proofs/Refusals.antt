@@ -28,9 +28,9 @@ use Rattle.settings.proofs.SettingsLaws.{right, passed, plan-fits, planned-widt
 use Rattle.settings.proofs.Refusals.{settings-refusals}
 use Rattle.subcarriers.specs.Subcarriers.{placesOf, subcarrierAt}
 use Rattle.frame.specs.Points.{floatsOf}
-use Rattle.demapper.specs.declared.search.Search.{Search}
-use Rattle.demapper.specs.declared.search.Search.the-variants.{AllGiven, At}
-use Rattle.demapper.specs.Demapped.{pointGiven, searchOf, shownBit, PointByRules}
+use Rattle.detector.specs.declared.search.Search.{Search}
+use Rattle.detector.specs.declared.search.Search.the-variants.{AllGiven, At}
+use Rattle.detector.specs.Detected.{pointGiven, searchOf, shownBit, PointByRules}
 use Rattle.verdicts.specs.Searches.{AllPass, FirstFailing}
 use Rattle.verdicts.proofs.GivenLaws.{given-exactly as given-by-rules, search-cases, shown-bit}
 use Rattle.decoder.specs.Statements.{SomeInputs}

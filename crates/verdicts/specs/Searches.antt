@@ -10,8 +10,9 @@ use Rattle.chain.specs.Parser.{axisBits}
 use Rattle.chain.specs.Labels.{halvesOf}
 use Rattle.subcarriers.specs.Subcarriers.{placesOf}
 use Rattle.modulator.specs.Symbol.{streamFloats, symbolFloat}
-use Rattle.demapper.specs.declared.search.Search.the-variants.{AllGiven, At}
-use Rattle.demapper.specs.Demapped.{bitOfLabel, pointGiven, searchOf, shownBit}
+use Rattle.detector.specs.declared.search.Search.the-variants.{AllGiven, At}
+use Rattle.demapper.specs.Demapped.{bitOfLabel}
+use Rattle.detector.specs.Detected.{pointGiven, searchOf, shownBit}
 
 -- every point of a symbol is one the rules give
 pub record AllPass (p : Plan) (points : List Float) (format n : ℕ) : Type 0 where

@@ -14,9 +14,9 @@ use Rattle.settings.specs.Symbols.{symbolsOf}
 use Rattle.settings.specs.Statements.{SettingsRefusals}
 use Rattle.subcarriers.specs.Subcarriers.{placesOf, subcarrierAt}
 use Rattle.frame.specs.Points.{floatsOf}
-use Rattle.demapper.specs.Demapped.{shownBit, PointByRules}
+use Rattle.detector.specs.Detected.{shownBit, PointByRules}
 use Rattle.decoder.specs.Statements.{SomeInputs}
-use Rattle.deframer.specs.Deframed.{payloadBefore}
+use Rattle.assembler.specs.Assembled.{payloadBefore}
 use Rattle.deframer.specs.Statements.{RightBit}
 use Rattle.reader_state.specs.declared.state.OpenSettings.{OpenSettings}
 use Rattle.reader_state.specs.declared.state.Reader.{Reader}

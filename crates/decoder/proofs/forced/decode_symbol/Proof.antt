@@ -1,7 +1,8 @@
+-- `decode_symbol` puts the inputs of one encoder or of two together.
 use native.Mathlib.Omega.{arith}
 use borrow.Author.Needs.{needs}
-use Rattle.decoder.proofs.EncoderLaws.{asked-first, asked-second, all-one, all-two}
 use Rattle.chain.proofs.Counts.{encoders-not-two}
+use Rattle.decoder.proofs.EncoderLaws.{asked-first, asked-second, all-one, all-two}
 use Rattle.decoder.proofs.forced.decode_symbol.Statement.{statement}
 use Rattle.decoder.proofs.forced.decode_symbol.Tie as tie
 

@@ -1,3 +1,4 @@
+-- `symbol_inputs` decodes the coded bits that it has placed.
 use borrow.Author.Needs.{needs}
 use Rattle.decoder.specs.Decoded.{historiesIn}
 use Rattle.decoder.proofs.SymbolLaws.{encoders-asked, symbol-filled, symbol-sound, symbol-moved}

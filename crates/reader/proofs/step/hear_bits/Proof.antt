@@ -2,7 +2,7 @@ use mathlib.Core.Path.{_≡_, _∙_, refl, sym, ap, subst}
 use native.Mathlib.Omega.{arith}
 use denote.Ref.{now}
 use Rattle.reader.proofs.HearLaws.{inputs-asked, inputs-at, frame-asked, sound-by, after-by, bits-heard, bits-refused}
-use Rattle.decoder.specs.Decoded.{bitsIn}
+use Rattle.deinterleaver.specs.Deinterleaved.{bitsIn}
 use Rattle.settings.specs.Settings.{planFor}
 use borrow.Author.Needs.{needs}
 use Rattle.reader.proofs.step.hear_bits.Statement.{statement}

@@ -1,0 +1,2 @@
+pub mod ScatterLaws
+pub mod PlaceLaws

@@ -1,0 +1,2 @@
+pub mod Deinterleaved
+pub mod Asked

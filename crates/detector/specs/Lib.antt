@@ -1,0 +1,2 @@
+pub mod Detected
+pub mod Asked
