@@ -2,7 +2,7 @@
 use mathlib.Core.Path.{_≡_, _∙_, refl, sym, ap, ap₂, subst}
 use mathlib.Core.Bool.{Bool, true, false, cond, not, _||_}
 use mathlib.Core.List.{List, [], _∷_}
-use Prim.Native.Nat.{ℕ, zero, suc, _+_, _*_, _/_, _%_, _<_, _≤_}
+use Prim.Native.Nat.{ℕ, zero, suc, _*_, _/_, _%_, _<_, _≤_}
 use native.Mathlib.Nat.{mul-comm, mod-lt, div-lt-iff-lt-mul}
 use native.Mathlib.Omega.{arith}
 use borrow.Author.Tests.{ltb-true, ltb-false}
@@ -20,7 +20,7 @@ use Rattle.chain.specs.Decoder.{decodedInput, decodes}
 use Rattle.settings.specs.declared.settings.Refusal.the-variants.{Room, Code, Frame, Closed}
 use Rattle.settings.specs.declared.settings.Settings.{Settings}
 use Rattle.settings.specs.declared.settings.Checked.{Checked}
-use Rattle.settings.specs.declared.settings.Checked.the-variants.{Accepted, Refused}
+use Rattle.settings.specs.declared.settings.Checked.the-variants.{Accepted}
 use Rattle.settings.specs.Settings.{checkOf, planFor, Right}
 use Rattle.settings.proofs.SettingsLaws.{plan-fits, planned-width}
 use Rattle.subcarriers.specs.Subcarriers.{placesOf, subcarrierAt}
@@ -34,15 +34,14 @@ use Rattle.decoder.specs.Decoded.{historyMoved, SymbolAsked}
 use Rattle.deinterleaver.specs.Deinterleaved.{bitsIn}
 use Rattle.decoder.proofs.ExtLaws.{decoded-ext, decodes-ext, moved-ext}
 use Rattle.reader_state.specs.declared.state.Reader.{Reader}
-use Rattle.reader.specs.declared.step.StepAnswer.{StepAnswer}
-use Rattle.reader.specs.declared.step.StepAnswer.the-variants.{First, Next, BadPoint, Refused as StepRefused}
+use Rattle.reader.specs.declared.step.StepAnswer.the-variants.{BadPoint, Refused as StepRefused}
 use Rattle.reader.specs.declared.step.Stepped.{Stepped}
 use Rattle.reader_state.specs.State.{InRange, openRaw, historyOf, closedOf, endedOf}
-use Rattle.reader.specs.Step.{answered, scramblerFor, plainOf, frameRight, partLeft, bytesInto, intoBy, movedWith, historiesAfter, acceptedWith, byFrame, heardInput, byCode, bySearch, noRoom, stepBy, stepOf, writtenBy, stepInto}
+use Rattle.reader.specs.Step.{answered, bytesInto, intoBy, movedWith, historiesAfter, acceptedWith, byFrame, heardInput, byCode, bySearch, noRoom, stepBy, stepOf, writtenBy, stepInto}
 use Rattle.reader.specs.Asked.{bitsOf, HeardInputs, FrameAsked, LabelsAsked, PointsAsked}
 use Rattle.chain.proofs.DecodeLaws.{decoded-bit}
 use Rattle.reader_state.proofs.StateLaws.{symbol-few}
-use Rattle.reader.proofs.StepLaws.{scrambler-ext, plain-ext, frame-ext, left-ext, into-ext}
+use Rattle.reader.proofs.StepLaws.{scrambler-ext, frame-ext, left-ext, into-ext}
 
 module _ (s : Settings) (right : Right s) (st : Reader) where
   -- by the symbol's own inputs

@@ -1,8 +1,8 @@
 -- The step's definitions look at the symbol's own inputs only, and what the code computes from lists is what they say. Assumes nothing.
 use mathlib.Core.Path.{_≡_, _∙_, refl, sym, ap, ap₂}
 use mathlib.Core.Bool.{Bool, true, false, cond, _&&_}
-use mathlib.Core.List.{List, [], _∷_, _++_}
-use Prim.Native.Nat.{ℕ, zero, suc, _+_, _-_, _*_, _/_, _%_, _<_, _≤_, min}
+use mathlib.Core.List.{List, _∷_, _++_}
+use Prim.Native.Nat.{ℕ, zero, suc, _+_, _-_, _*_, _/_, _%_, _<_, _≤_}
 use native.Mathlib.Omega.{arith}
 use borrow.Author.Tests.{eq-eqb, ne-eqb}
 use lib.Dec.{eqb, ltb}
@@ -12,26 +12,24 @@ use Rattle.laws.specs.Filled.{Filled}
 use Rattle.laws.proofs.Firsts.{fill-into}
 use Rattle.laws.proofs.Filling.{fill-at}
 use Rattle.chain.specs.declared.plan.Plan.{Plan}
-use Rattle.chain.specs.Plan.{Fits}
 use Rattle.chain.specs.Scrambler.{stateAt, seedOf, scramblerBit}
 use Rattle.chain.proofs.Counts.{encoders-most}
 use Rattle.chain.proofs.ScramblerLaws.{seed-ext}
 use Rattle.settings.specs.declared.settings.Settings.{Settings}
-use Rattle.settings.specs.declared.settings.Refusal.the-variants.{Frame, Code}
+use Rattle.settings.specs.declared.settings.Refusal.the-variants.{Frame}
 use Rattle.settings.specs.Settings.{planFor, Right}
 use Rattle.settings.specs.Symbols.{symbolsOf}
 use Rattle.settings.proofs.SettingsLaws.{plan-fits}
 use Rattle.deframer.specs.Deframed.{plainBit, framed, PlainAsked, FramedAsked}
-use Rattle.assembler.specs.Assembled.{payloadBefore, byteOf, partOf, knownBit, PayloadAsked}
+use Rattle.assembler.specs.Assembled.{payloadBefore, byteOf, partOf, knownBit}
 use Rattle.assembler.proofs.Packing.{packed-ext}
 use Rattle.deframer.proofs.Framing.{framed-ext}
 use Rattle.assembler.proofs.KnownBits.{known-ext}
 use Rattle.reader_state.specs.declared.state.Reader.{Reader}
 use Rattle.reader.specs.declared.step.StepAnswer.{StepAnswer}
-use Rattle.reader.specs.declared.step.StepAnswer.the-variants.{First, Next, BadPoint, Refused as StepRefused}
-use Rattle.reader.specs.declared.step.Stepped.{Stepped}
-use Rattle.reader_state.specs.State.{historyOf, firstBit, endedOf}
-use Rattle.reader.specs.Step.{answered, scramblerFor, plainOf, frameRight, bitsBefore, bitsAfter, knownOf, partLeft, bytesLeft, bytesInto, intoBy, movedWith, historiesAfter, acceptedWith, byFrame, heardInput, byCode}
+use Rattle.reader.specs.declared.step.StepAnswer.the-variants.{First, Next, Refused as StepRefused}
+use Rattle.reader_state.specs.State.{firstBit, endedOf}
+use Rattle.reader.specs.Step.{answered, scramblerFor, plainOf, frameRight, bitsBefore, bitsAfter, knownOf, partLeft, bytesLeft, bytesInto, intoBy, movedWith, acceptedWith}
 use Rattle.reader.specs.Asked.{bitsOf, InputsHeld, ScramblerAsked, framedIn, RightAsked, BytesAsked, HeardInputs}
 use Rattle.reader_state.proofs.StateLaws.{first-near, symbol-few}
 

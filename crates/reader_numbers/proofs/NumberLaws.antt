@@ -1,7 +1,7 @@
 -- Small numbers of the reader's answers: the state after a step has its symbol below 2^16, a place is a subcarrier of the channel. Assumes nothing.
 use mathlib.Core.Path.{_≡_, _∙_, refl, sym, ap, subst}
 use mathlib.Core.Bool.{Bool, true, false, cond}
-use mathlib.Core.List.{List, [], _∷_}
+use mathlib.Core.List.{List}
 use mathlib.Core.Logic.{⊎-elim}
 use Prim.Native.Nat.{ℕ, _+_, _*_, _%_, _<_}
 use native.Mathlib.Nat.{mod-lt}
@@ -13,19 +13,18 @@ use lib.Ieee.{Float}
 use Rattle.laws.specs.Integers.{counted}
 use Rattle.laws.specs.Claim.{Claim, _is_, upTo, Holds, sound}
 use Rattle.laws.proofs.Integers.{counted-same}
-use Rattle.chain.specs.Decoder.{decodes}
 use Rattle.settings.specs.declared.settings.Refusal.the-variants.{Room, Code, Frame, Closed}
 use Rattle.settings.specs.declared.settings.Settings.{Settings}
 use Rattle.settings.specs.declared.settings.Checked.{Checked}
 use Rattle.settings.specs.declared.settings.Checked.the-variants.{Accepted, Refused}
 use Rattle.settings.specs.Settings.{checkOf, planFor, Right}
 use Rattle.settings.proofs.SettingsLaws.{right, symbols-few}
-use Rattle.subcarriers.specs.Subcarriers.{subcarrierFrom, Inside, subcarrierAt, placesOf}
+use Rattle.subcarriers.specs.Subcarriers.{subcarrierFrom, subcarrierAt}
 use Rattle.subcarriers.proofs.SubcarrierLaws.{inside-wide, place-used-for}
 use Rattle.frame.specs.Points.{floatsOf}
 use Rattle.detector.specs.declared.search.Search.{Search}
 use Rattle.detector.specs.declared.search.Search.the-variants.{AllGiven, At}
-use Rattle.detector.specs.Detected.{searchOf, shownBit}
+use Rattle.detector.specs.Detected.{searchOf}
 use Rattle.reader_state.specs.declared.state.OpenSettings.{OpenSettings}
 use Rattle.reader_state.specs.declared.state.Reader.{Reader}
 use Rattle.reader_state.specs.declared.state.StartAnswer.{StartAnswer}
@@ -33,9 +32,9 @@ use Rattle.reader_state.specs.declared.state.Started.{Started}
 use Rattle.reader.specs.declared.step.StepAnswer.the-variants.{First, Next, Refused as StepRefused}
 use Rattle.reader.specs.declared.step.Stepped.{Stepped}
 use Rattle.reader_place.specs.declared.place.PlaceAnswer.{PlaceAnswer}
-use Rattle.reader_place.specs.declared.place.PlaceAnswer.the-variants.{Passed, Found, Refused as PlaceRefused}
-use Rattle.reader_state.specs.State.{openRaw, startBy, startOf, historyOf, closedOf, endedOf}
-use Rattle.reader.specs.Step.{answered, scramblerFor, plainOf, frameRight, partLeft, movedWith, historiesAfter, heardInput, bySearch, noRoom, stepOf, stepInto}
+use Rattle.reader_place.specs.declared.place.PlaceAnswer.the-variants.{Refused as PlaceRefused}
+use Rattle.reader_state.specs.State.{openRaw, startBy, startOf, closedOf, endedOf}
+use Rattle.reader.specs.Step.{answered, scramblerFor, frameRight, bySearch, noRoom, stepOf, stepInto}
 use Rattle.reader_place.specs.Place.{foundAs, placeBy, placeOf}
 use Rattle.reader.proofs.HearLaws.{place-few}
 use Rattle.conversions.specs.Results.{refusedResult}

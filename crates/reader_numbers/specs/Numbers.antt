@@ -17,7 +17,6 @@ use Rattle.reader_state.specs.declared.state.Started.{Started}
 use Rattle.reader.specs.declared.step.Stepped.{Stepped}
 use Rattle.reader_place.specs.declared.place.PlaceAnswer.{PlaceAnswer}
 use Rattle.reader_place.specs.declared.place.PlaceAnswer.the-variants.{Passed, Found, Refused as PlaceRefused}
-use Rattle.reader_state.specs.State.{startOf}
 use Rattle.reader.specs.Step.{stepOf, stepInto, stepNumber, stepSeed}
 use Rattle.reader_place.specs.Place.{placeOf}
 use Rattle.conversions.specs.Results.{flagOn, refusedResult}

@@ -1,7 +1,7 @@
 -- The reader's state: its numbers are small, and it is closed exactly where it is not in range. Assumes nothing.
-use mathlib.Core.Path.{_≡_, _∙_, refl, sym, ap, subst}
-use mathlib.Core.Bool.{Bool, true, false, not, _||_, _&&_}
-use mathlib.Core.List.{List, [], _∷_}
+use mathlib.Core.Path.{_≡_, _∙_, sym, ap}
+use mathlib.Core.Bool.{Bool, true, false, _||_}
+use mathlib.Core.List.{[], _∷_}
 use Prim.Native.Nat.{ℕ, _*_, _%_, _^_, _<_, _≤_}
 use native.Mathlib.Nat.{mul-le-mul}
 use native.Mathlib.Omega.{arith}
@@ -13,8 +13,7 @@ use Rattle.laws.specs.Claim.{Claim, _is_, upTo, Holds, sound}
 use Rattle.laws.proofs.Reflect.{or-false}
 use Rattle.chain.specs.declared.plan.Plan.{Plan}
 use Rattle.settings.specs.declared.settings.Settings.{Settings}
-use Rattle.settings.specs.declared.settings.Checked.{Checked}
-use Rattle.settings.specs.declared.settings.Checked.the-variants.{Accepted, Refused}
+use Rattle.settings.specs.declared.settings.Checked.the-variants.{Accepted}
 use Rattle.settings.specs.Settings.{checkOf, planFor, Right}
 use Rattle.settings.specs.Symbols.{symbolsOf}
 use Rattle.settings.proofs.SettingsLaws.{right, plan-fits, symbols-few}

@@ -11,7 +11,6 @@ use settings::symbols::symbols_of;
 ghost use mathlib.Core.Path.{_≡_};
 ghost use Prim.Native.Nat.{_%_, _^_, _<_};
 ghost use Rattle.settings.specs.Settings.{Right};
-ghost use Rattle.assembler.specs.Assembled.{payloadBefore};
 ghost use Rattle.reader_state.specs.State.{openRaw, startOf, badScrambler, badPart, closedOf, endedOf};
 
 // Settings without a seed, as wide as any caller has them.

@@ -4,9 +4,9 @@ use mathlib.Core.Path.{_≡_, _∙_, refl, sym, ap, ap₂, subst}
 use mathlib.Core.Bool.{Bool, true, false, cond, not, _||_, _&&_}
 use mathlib.Core.List.{List, [], _∷_}
 use mathlib.Core.Logic.{_↔_, _⊎_, inl, inr, ⊎-elim}
-use Prim.Native.Nat.{ℕ, _+_, _*_, _<_, _≤_}
+use Prim.Native.Nat.{ℕ, _+_, _<_}
 use native.Mathlib.Omega.{arith}
-use borrow.Author.Tests.{ltb-false, lt-ltb, le-ltb}
+use borrow.Author.Tests.{ltb-false, le-ltb}
 use lib.Dec.{T, eqb, ltb}
 use lib.ListN.{length}
 use lib.IntN.{ℤ, pos}
@@ -17,12 +17,11 @@ use Rattle.laws.proofs.Refusing.{given-exactly, true-not-false}
 use Rattle.laws.proofs.Reflect.{less, either}
 use Rattle.laws.proofs.Search.{AllBelow, FirstFailing as FirstWrong, search-below}
 use Rattle.chain.specs.Decoder.{decodes}
-use Rattle.settings.specs.declared.settings.Refusal.{Refusal}
 use Rattle.settings.specs.declared.settings.Refusal.the-variants.{Room, Code, Frame, Closed}
 use Rattle.settings.specs.declared.settings.Settings.{Settings}
 use Rattle.settings.specs.declared.settings.Checked.{Checked}
 use Rattle.settings.specs.declared.settings.Checked.the-variants.{Accepted, Refused}
-use Rattle.settings.specs.Settings.{numberOf, checkOf, checkedNumber, settingsOf, planFor, Right}
+use Rattle.settings.specs.Settings.{checkOf, checkedNumber, planFor, Right}
 use Rattle.settings.specs.Statements.{SettingsRefusals}
 use Rattle.settings.proofs.SettingsLaws.{right, passed, plan-fits, planned-width}
 use Rattle.settings.proofs.Refusals.{settings-refusals}
@@ -33,21 +32,18 @@ use Rattle.detector.specs.declared.search.Search.the-variants.{AllGiven, At}
 use Rattle.detector.specs.Detected.{pointGiven, searchOf, shownBit, PointByRules}
 use Rattle.verdicts.specs.Searches.{AllPass, FirstFailing}
 use Rattle.verdicts.proofs.GivenLaws.{given-exactly as given-by-rules, search-cases, shown-bit}
-use Rattle.decoder.specs.Statements.{SomeInputs}
 use Rattle.decoder.proofs.ExtLaws.{code-exactly}
 use Rattle.deframer.specs.Deframed.{inputOk, framed}
-use Rattle.deframer.specs.Statements.{RightBit}
 use Rattle.deframer.proofs.Framing.{T-true, framed-exactly, right-ok}
 use Rattle.reader_state.specs.declared.state.OpenSettings.{OpenSettings}
 use Rattle.reader_state.specs.declared.state.Reader.{Reader}
-use Rattle.reader_state.specs.declared.state.Started.{Started}
 use Rattle.reader.specs.declared.step.StepAnswer.{StepAnswer}
 use Rattle.reader.specs.declared.step.StepAnswer.the-variants.{First, Next, BadPoint, Refused as StepRefused}
 use Rattle.reader.specs.declared.step.Stepped.{Stepped}
 use Rattle.reader_place.specs.declared.place.PlaceAnswer.{PlaceAnswer}
 use Rattle.reader_place.specs.declared.place.PlaceAnswer.the-variants.{Passed, Found, Refused as PlaceRefused}
 use Rattle.reader_state.specs.State.{InRange, openRaw, startBy, startOf, startNumber, historyOf, firstBit, closedOf, endedOf}
-use Rattle.reader.specs.Step.{answered, scramblerFor, plainOf, frameRight, partLeft, intoBy, movedWith, historiesAfter, heardInput, bySearch, noRoom, stepBy, stepOf, stepInto, writtenBy, stepNumber, stepStream, stepSubcarrier}
+use Rattle.reader.specs.Step.{answered, scramblerFor, plainOf, frameRight, partLeft, intoBy, movedWith, historiesAfter, heardInput, bySearch, noRoom, stepBy, stepOf, writtenBy, stepNumber, stepStream, stepSubcarrier}
 use Rattle.reader_place.specs.Place.{foundAs, placeBy, placeOf}
 use Rattle.verdicts.specs.Statements.{settingsIn, InReach, ClosedRow, RoomRow, PointRow, shownIn, inputIn, CodeRow, WrongBit, FrameRow, StepRefusals, FirstPlace, PlaceIsFirst, RefusedUnchanged, RefusedState, StartRefusals, PlaceTied}
 use Rattle.reader_state.proofs.StateLaws.{in-range, not-closed}

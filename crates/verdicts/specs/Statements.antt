@@ -1,22 +1,19 @@
 -- What is proved of the reader beside its contracts, in document 01's words. The terms are in proofs/.
 use mathlib.Core.Path.{_≡_}
-use mathlib.Core.Bool.{false}
 use mathlib.Core.List.{List}
 use mathlib.Core.Logic.{_↔_, _⊎_}
-use Prim.Native.Nat.{ℕ, _+_, _%_, _^_, _<_, _≤_}
+use Prim.Native.Nat.{ℕ, _+_, _<_, _≤_}
 use lib.ListN.{length}
 use lib.IntN.{ℤ}
 use lib.Ieee.{Float}
 use Rattle.settings.specs.declared.settings.Settings.{Settings}
 use Rattle.settings.specs.declared.settings.Checked.the-variants.{Accepted}
 use Rattle.settings.specs.Settings.{checkOf, settingsOf, planFor}
-use Rattle.settings.specs.Symbols.{symbolsOf}
 use Rattle.settings.specs.Statements.{SettingsRefusals}
 use Rattle.subcarriers.specs.Subcarriers.{placesOf, subcarrierAt}
 use Rattle.frame.specs.Points.{floatsOf}
 use Rattle.detector.specs.Detected.{shownBit, PointByRules}
 use Rattle.decoder.specs.Statements.{SomeInputs}
-use Rattle.assembler.specs.Assembled.{payloadBefore}
 use Rattle.deframer.specs.Statements.{RightBit}
 use Rattle.reader_state.specs.declared.state.OpenSettings.{OpenSettings}
 use Rattle.reader_state.specs.declared.state.Reader.{Reader}

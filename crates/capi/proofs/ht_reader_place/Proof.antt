@@ -1,10 +1,6 @@
 use Rattle.reader_numbers.specs.Numbers.{openOf, readerOf, PlaceRight}
-use mathlib.Core.Path.{_≡_, _∙_, refl, sym, ap, subst}
-use native.Mathlib.Omega.{arith}
+use mathlib.Core.Path.{_∙_, sym, ap, subst}
 use denote.Ref.{now}
-use lib.IntN.{pos}
-use mir.Syntax.{w64}
-use mir.Facts.{toZ-pos}
 use Rattle.reader_state.specs.declared.state.OpenSettings.{OpenSettings}
 use Rattle.reader_numbers.proofs.NumberLaws.{place-none, place-some, place-right}
 use borrow.Author.Needs.{needs}

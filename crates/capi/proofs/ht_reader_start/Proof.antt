@@ -1,9 +1,8 @@
 use Rattle.reader_state.specs.declared.state.OpenSettings.{OpenSettings}
-use Rattle.reader_numbers.specs.Numbers.{openOf, readerOf, PlaceRight}
+use Rattle.reader_numbers.specs.Numbers.{openOf}
 use Rattle.reader_state.specs.declared.state.StartAnswer.the-variants.{Ready, Refused as StartRefused}
-use mathlib.Core.Path.{_≡_, _∙_, refl, sym, ap, subst}
+use mathlib.Core.Path.{_∙_, ap}
 use native.Mathlib.Omega.{arith}
-use denote.Ref.{now}
 use lib.IntN.{pos}
 use mir.Syntax.{w64}
 use mir.Facts.{toZ-pos}

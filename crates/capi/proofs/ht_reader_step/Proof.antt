@@ -1,7 +1,7 @@
 use Rattle.reader_state.specs.declared.state.OpenSettings.{OpenSettings}
-use Rattle.reader_numbers.specs.Numbers.{openOf, readerOf, PlaceRight}
+use Rattle.reader_numbers.specs.Numbers.{openOf, readerOf}
 use Prim.Native.Nat.{_+_, _*_, _%_}
-use mathlib.Core.Path.{_≡_, _∙_, refl, sym, ap, subst}
+use mathlib.Core.Path.{_∙_, ap}
 use native.Mathlib.Omega.{arith}
 use denote.Ref.{now}
 use lib.IntN.{pos}

@@ -1,4 +1,4 @@
-use mathlib.Core.Path.{_≡_, _∙_, refl, sym, ap, subst}
+use mathlib.Core.Path.{_∙_, sym, ap, subst}
 use Prim.Native.Nat.{ℕ, _<_}
 use Rattle.reader.specs.Step.{stepNumber}
 use Rattle.conversions.proofs.Minus.{number-small}

@@ -1,6 +1,5 @@
-use mathlib.Core.Path.{_≡_, _∙_, refl, sym, ap}
-use native.Mathlib.Omega.{arith}
-use Rattle.reader_numbers.specs.Numbers.{stateNumber, readerOf, steppedNumber}
+use mathlib.Core.Path.{refl}
+use Rattle.reader_numbers.specs.Numbers.{readerOf}
 use borrow.Author.Needs.{needs}
 use Rattle.reader_numbers.proofs.reader_of.Statement.{statement}
 use Rattle.reader_numbers.proofs.reader_of.Tie as tie

@@ -1,6 +1,5 @@
-use mathlib.Core.Path.{_≡_, _∙_, refl, sym, ap}
 use native.Mathlib.Omega.{arith}
-use Rattle.reader_numbers.specs.Numbers.{stateNumber, readerOf, steppedNumber}
+use Rattle.reader_numbers.specs.Numbers.{stateNumber}
 use borrow.Author.Needs.{needs}
 use Rattle.reader_numbers.proofs.state_number.Statement.{statement}
 use Rattle.reader_numbers.proofs.state_number.Tie as tie

@@ -1,4 +1,3 @@
-use mathlib.Core.Path.{_≡_, _∙_, refl, sym, ap, subst}
 use native.Mathlib.Omega.{arith}
 use Rattle.reader_numbers.specs.Numbers.{steppedNumber}
 use borrow.Author.Needs.{needs}

@@ -1,5 +1,5 @@
 use Rattle.reader.specs.Asked.{bitsOf}
-use mathlib.Core.Path.{_≡_, _∙_, refl, sym, ap, subst}
+use mathlib.Core.Path.{_∙_, sym}
 use native.Mathlib.Omega.{arith}
 use denote.Ref.{now}
 use Rattle.reader.proofs.StepLaws.{scrambler-asked, plain-asked, right-asked, bytes-asked, plain-at, plain-small, heard-accepted, heard-refused}

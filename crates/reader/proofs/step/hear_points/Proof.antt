@@ -1,5 +1,5 @@
 use Rattle.reader.proofs.HearLaws.{place-few, stream-few}
-use mathlib.Core.Path.{_≡_, _∙_, refl, sym, ap, subst}
+use mathlib.Core.Path.{_∙_, refl}
 use native.Mathlib.Omega.{arith}
 use denote.Ref.{now}
 use Rattle.reader.proofs.HearLaws.{points-asked, search-by, shown-by, labels-asked, points-refused, points-heard}

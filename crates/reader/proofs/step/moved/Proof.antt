@@ -1,4 +1,3 @@
-use mathlib.Core.Path.{_≡_, _∙_, refl, sym, ap, subst}
 use native.Mathlib.Omega.{arith}
 use Rattle.reader_state.proofs.StateLaws.{symbol-few}
 use Rattle.reader.proofs.StepLaws.{moved-by}

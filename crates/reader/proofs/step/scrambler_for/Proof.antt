@@ -1,4 +1,4 @@
-use mathlib.Core.Path.{_≡_, _∙_, refl, sym, ap, subst}
+use mathlib.Core.Path.{_∙_}
 use Rattle.reader.proofs.StepLaws.{scrambler-first, scrambler-later}
 use Rattle.reader.proofs.step.scrambler_for.Statement.{statement}
 use Rattle.reader.proofs.step.scrambler_for.Tie as tie

@@ -1,15 +1,12 @@
 use Rattle.reader.proofs.HearLaws.{room-by, room-found}
 use Rattle.reader_state.specs.State.{openRaw, closedOf}
 use Rattle.settings.specs.declared.settings.Checked.the-variants.{Accepted}
-use mathlib.Core.Path.{_≡_, _∙_, refl, sym, ap, subst}
-use native.Mathlib.Omega.{arith}
+use mathlib.Core.Path.{_≡_, _∙_, refl, sym, ap}
 use denote.Ref.{now}
 use Rattle.reader.proofs.HearLaws.{step-as, step-by}
 use Rattle.reader_state.proofs.StateLaws.{open-right, in-range}
 use Rattle.settings.specs.Settings.{checkOf}
-use mathlib.Core.Bool.{Bool, true, false, _||_}
-use lib.Dec.{ltb}
-use lib.ListN.{length}
+use mathlib.Core.Bool.{true, false}
 use borrow.Author.Needs.{needs}
 use Rattle.reader.proofs.step.step.Statement.{statement}
 use Rattle.reader.proofs.step.step.Tie as tie

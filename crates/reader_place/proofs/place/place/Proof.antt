@@ -1,18 +1,16 @@
 use mir.Syntax.{w32}
 use mir.Val.{toZ, ofZ}
-use mathlib.Core.Path.{_≡_, _∙_, refl, sym, ap, subst}
+use mathlib.Core.Path.{_≡_, _∙_, refl, sym, ap}
 use native.Mathlib.Omega.{arith}
 use denote.Ref.{now}
 use Rattle.reader_place.proofs.PlaceLaws.{place-as, place-by}
 use Rattle.reader.proofs.HearLaws.{points-asked, search-by, place-few, stream-few}
 use Rattle.reader_state.proofs.StateLaws.{open-right, in-range}
-use mathlib.Core.Bool.{Bool, true, false}
+use mathlib.Core.Bool.{true, false}
 use borrow.Author.Tests.{ltb-false}
 use lib.Dec.{ltb}
 use lib.ListN.{length}
-use Prim.Native.Nat.{ℕ}
-use Rattle.settings.specs.Settings.{checkOf, planFor}
-use Rattle.frame.specs.Points.{floatsOf}
+use Rattle.settings.specs.Settings.{checkOf}
 use Rattle.reader_state.specs.State.{openRaw, closedOf}
 use Rattle.settings.specs.declared.settings.Checked.the-variants.{Accepted}
 use Rattle.reader_place.specs.declared.place.PlaceAnswer.the-variants.{Found}
