@@ -1,1 +1,2 @@
+pub mod NumberBack
 pub mod NumberLaws
