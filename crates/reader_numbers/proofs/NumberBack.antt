@@ -41,7 +41,7 @@ pub number-back : (o : OpenSettings) (state : ℕ) → state < 562949953421312 �
 unfolding stateNumber readerOf
 number-back o x l =
     ap (λ (e : ℕ). x % 65536 + 65536 * (x / 65536 % 256) + 16777216 * (x / 16777216 % 256) + 4294967296 * (x / 4294967296 % 256)
-        + 1099511627776 * (x / 1099511627776 % 256) + 281474976710656 * e) (one-back (x / 281474976710656 % 2) (omega arith))
+    + 1099511627776 * (x / 1099511627776 % 256) + 281474976710656 * e) (one-back (x / 281474976710656 % 2) (omega arith))
     ∙ summed x _ _ _ _ _ _ _ _ _ _ (split-16 x) (split-24 x) (split-32 x) (split-40 x) (split-48 x l)
 
 -- ---- from the state
