@@ -3,7 +3,7 @@
 
 mod common;
 
-use common::{bits, carried, numbered, pilot_places, question_range, Draw, GOOD};
+use common::{any_settings, bits, carried, numbered, pilot_places, question_range, Draw, GOOD};
 use controller::{
     carrier, carrier_into, floats_per_symbol, points, sig_write, symbol_count, RawSettings,
     MAX_FLOATS,
@@ -41,21 +41,6 @@ fn payload_bits(length: u32) -> Range<u64> {
 fn flip(payload: &mut [u8], data_bit: u64) {
     let place = data_bit as usize - 16;
     payload[place / 8] ^= 1 << (place % 8);
-}
-
-/// Accepted settings of a width and an MCS.
-fn settings(width: u32, mcs: u32, length: u32, draw: &mut Draw) -> RawSettings {
-    RawSettings {
-        width,
-        mcs,
-        format: draw.below(2) as u32,
-        length,
-        seed: 1 + draw.below(127) as u32,
-        smoothing: draw.below(2) as u32,
-        not_sounding: draw.below(2) as u32,
-        aggregation: draw.below(2) as u32,
-        short_guard: draw.below(2) as u32,
-    }
 }
 
 /// A slice that begins with the payload and goes on with bytes that are not looked at.
@@ -131,7 +116,7 @@ fn signal_bits_count_refusals_and_pilots_are_equal() {
             0 => 1 + draw.below(65_535) as u32,
             _ => 1 + draw.below(300) as u32,
         };
-        let good = settings(width, mcs, length, &mut draw);
+        let good = any_settings(width, mcs, length, &mut draw);
         let (lowest, highest) = question_range(width);
         let count = symbol_count(good).unwrap() as u32;
         let need = floats_per_symbol(good).unwrap();
@@ -190,7 +175,7 @@ fn kinds_and_pilot_signs_are_equal() {
     let mut kinds = [0; 3];
     for width in [20, 40] {
         for mcs in 0..32 {
-            let s = settings(width, mcs, 1 + draw.below(200) as u32, &mut draw);
+            let s = any_settings(width, mcs, 1 + draw.below(200) as u32, &mut draw);
             let number = draw.below(symbol_count(s).unwrap()) as u32;
             let [one, other] = [0, 1].map(|_| draw.bytes(s.length as usize + 3));
             let one = answers(s, &one, number);
@@ -230,7 +215,7 @@ fn a_symbol_is_equal_where_its_bytes_are() {
     for width in [20, 40] {
         for mcs in 0..32 {
             for turn in 0..6 {
-                let s = settings(width, mcs, few_symbols(width, mcs, &mut draw), &mut draw);
+                let s = any_settings(width, mcs, few_symbols(width, mcs, &mut draw), &mut draw);
                 let count = symbol_count(s).unwrap();
                 let n = match turn {
                     0 => 0,
@@ -278,7 +263,7 @@ fn the_six_steps_before_a_symbol_show_in_it() {
             let per_symbol = u64::from(second::data_bits_per_symbol(width, mcs));
             let encoders = u64::from(second::encoders(mcs));
             let length = (4 * per_symbol / 8) as u32;
-            let s = settings(width, mcs, length, &mut draw);
+            let s = any_settings(width, mcs, length, &mut draw);
             let n = 2;
             let one = draw.bytes(length as usize);
             let whole = symbol(s, &one, n as u32);
@@ -320,7 +305,7 @@ fn the_symbol_of_the_first_differing_bit_differs() {
                     0 => 65_535,
                     _ => few_symbols(width, mcs, &mut draw),
                 };
-                let s = settings(width, mcs, length, &mut draw);
+                let s = any_settings(width, mcs, length, &mut draw);
                 let range = payload_bits(length);
                 let within = range.end - range.start;
                 // The ends of the payload, the ends of a symbol, and any bit.
@@ -387,7 +372,7 @@ fn frames_of_unequal_seeds_differ_in_symbol_0() {
         for mcs in 0..32 {
             for kind in 0..3 {
                 let length = few_symbols(width, mcs, &mut draw);
-                let s = settings(width, mcs, length, &mut draw);
+                let s = any_settings(width, mcs, length, &mut draw);
                 let bytes = length as usize;
                 let shared = draw.bytes(bytes);
                 let frames: Vec<(RawSettings, Vec<u8>)> = (1..=127)

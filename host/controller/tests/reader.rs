@@ -6,11 +6,10 @@
 mod common;
 
 use common::reading::{
-    any_settings, any_state, few_symbols, flip_label_bit, kind, number_of, own_numbers,
-    payload_bits_before, place_of, state_of, symbol, symbol_from, Both, Damage, Frame, Kind, Lent,
-    ENDED, NO_STATE,
+    any_state, few_symbols, flip_label_bit, kind, number_of, own_numbers, payload_bits_before,
+    place_of, state_of, symbol, symbol_from, Both, Damage, Frame, Kind, Lent, ENDED, NO_STATE,
 };
-use common::{numbered, second_open, Draw, GOOD};
+use common::{any_settings, numbered, second_open, Draw, GOOD};
 use controller::{
     floats_per_symbol, points, reader_place, reader_start, reader_step_number, symbol_count, Flags,
     Format, OpenSettings, RawOpenSettings, RawSettings, RawStep, ReadRefusal, Reader, Refusal,

@@ -34,6 +34,21 @@ impl Draw {
     }
 }
 
+/// Any accepted settings of a width and an MCS.
+pub fn any_settings(width: u32, mcs: u32, length: u32, draw: &mut Draw) -> RawSettings {
+    RawSettings {
+        width,
+        mcs,
+        format: draw.below(2) as u32,
+        length,
+        seed: 1 + draw.below(127) as u32,
+        smoothing: draw.of(&[0, 1, u32::MAX]),
+        not_sounding: draw.of(&[0, 1, 256]),
+        aggregation: draw.of(&[0, 1, 1 << 31]),
+        short_guard: draw.of(&[0, 1, 1 << 16]),
+    }
+}
+
 /// Good settings that a test changes in one place.
 pub const GOOD: RawSettings = RawSettings {
     width: 20,

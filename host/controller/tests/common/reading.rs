@@ -1,7 +1,7 @@
 //! What the reader's tests share: one step of both programs with guarded memory, frames with their states, symbols made
 //! of any data bits, and damage of every kind.
 
-use super::{bits, numbered, pilot_places, second_open, second_settings, Draw};
+use super::{any_settings, bits, numbered, pilot_places, second_open, second_settings, Draw};
 use controller::{points, reader_place, reader_start, reader_step_number, symbol_count};
 use controller::{RawOpenSettings, RawSettings, RawStep};
 use second::{Answer, State};
@@ -285,21 +285,6 @@ pub fn symbol(s: RawSettings, payload: &[u8], n: usize) -> Vec<f32> {
     let mut out = [f32::NAN; controller::MAX_FLOATS];
     let count = points(s, payload, n as u32, &mut out).unwrap();
     out[..count].to_vec()
-}
-
-/// Any accepted settings of a width and an MCS.
-pub fn any_settings(width: u32, mcs: u32, length: u32, draw: &mut Draw) -> RawSettings {
-    RawSettings {
-        width,
-        mcs,
-        format: draw.below(2) as u32,
-        length,
-        seed: 1 + draw.below(127) as u32,
-        smoothing: draw.of(&[0, 1, u32::MAX]),
-        not_sounding: draw.of(&[0, 1, 256]),
-        aggregation: draw.of(&[0, 1, 1 << 31]),
-        short_guard: draw.of(&[0, 1, 1 << 16]),
-    }
 }
 
 /// A length with which a frame has a few symbols, up to `most`.
