@@ -1,31 +1,18 @@
-// The calls over the C convention: numbers and slices in, one i64 out, a refusal as its number negated.
-use conversions::fields_number;
-use conversions::put_carried;
-use conversions::query_refusal;
+// The calls over the C convention: numbers and slices in, one i64 out, a refusal as its number negated. Each gathers its settings and calls on.
+use calls::carrier_call;
+use calls::count_call;
+use calls::points_call;
+use calls::sig_read_call;
+use calls::sig_write_call;
 use conversions::raw_settings;
-use conversions::refused;
-use frame::points;
-use frame::points::PointsAnswer;
-use query::query::QueryAnswer;
-use reader::step;
+use reader_calls::place_call;
+use reader_calls::start_call;
+use reader_calls::step_call;
 use reader_numbers::open_settings;
-use reader_numbers::place_number;
-use reader_numbers::reader_of;
-use reader_numbers::state_number;
-use reader_numbers::stepped_number;
-use reader_place::place;
-use reader_state::state;
-use reader_state::state::StartAnswer;
-use settings::settings::Refusal;
-use settings::symbols;
-use settings::symbols::Count;
-use signal::ht_sig;
-use signal::ht_sig::SigRead;
-use signal::ht_sig::Written;
 ghost use mathlib.Core.Path.{_≡_};
 ghost use lib.ListN.{length as lengthOf};
 ghost use Rattle.settings.specs.Settings.{checkOf};
-ghost use Rattle.settings.specs.Symbols.{countOf};
+ghost use Rattle.symbols.specs.Symbols.{countOf};
 ghost use Rattle.signal.specs.HtSig.{writtenOf, writtenInto, readOf};
 ghost use Rattle.frame.specs.Points.{pointsOf, pointsInto};
 ghost use Rattle.query.specs.Query.{queryOf};
@@ -60,10 +47,7 @@ pub extern "C" fn ht_symbol_count(
         aggregation,
         short_guard,
     );
-    match symbols::symbol_count(raw) {
-        Count::Symbols(n) => n as i64,
-        Count::Refused(r) => refused(r),
-    }
+    count_call(raw)
 }
 
 // The HT-SIG bytes, written.
@@ -94,10 +78,7 @@ pub extern "C" fn ht_sig_write(
         aggregation,
         short_guard,
     );
-    match ht_sig::write(raw, out) {
-        Written::Done => 0,
-        Written::Refused(r) => refused(r),
-    }
+    sig_write_call(raw, out)
 }
 
 // The HT-SIG bytes, read.
@@ -105,10 +86,7 @@ pub extern "C" fn ht_sig_write(
 pub extern "C" fn ht_sig_read(sig: &[u8]) -> i64
     ensures { λ r. ⌜ r ≡ readResult (readOf (now (sig .entry))) ⌝ }
 {
-    match ht_sig::read(sig) {
-        SigRead::Fields(g) => fields_number(g) as i64,
-        SigRead::Refused(r) => refused(r),
-    }
+    sig_read_call(sig)
 }
 
 // The points of one data symbol.
@@ -141,10 +119,7 @@ pub extern "C" fn ht_points(
         aggregation,
         short_guard,
     );
-    match points::points(raw, payload, symbol as u64, out) {
-        PointsAnswer::Written(n) => n as i64,
-        PointsAnswer::Refused(r) => refused(r),
-    }
+    points_call(raw, payload, symbol as u64, out)
 }
 
 // What one subcarrier carries.
@@ -179,15 +154,7 @@ pub extern "C" fn ht_carrier(
         aggregation,
         short_guard,
     );
-    let answer = query::query::subcarrier(raw, payload, symbol as u64, stream as u64, subcarrier);
-    let QueryAnswer::Carries(carried) = answer else {
-        return refused(query_refusal(answer));
-    };
-    let small = out.len() < 2;
-    if small {
-        return refused(Refusal::Room);
-    }
-    put_carried(carried, out)
+    carrier_call(raw, payload, symbol as u64, stream as u64, subcarrier, out)
 }
 
 // The reader's state before symbol 0.
@@ -214,13 +181,7 @@ pub extern "C" fn ht_reader_start(
         aggregation,
         short_guard,
     );
-    let started = state::start(open);
-    let answer = started.answer;
-    let begun = started.state;
-    match answer {
-        StartAnswer::Ready => state_number(begun) as i64,
-        StartAnswer::Refused(r) => refused(r),
-    }
+    start_call(open)
 }
 
 // One symbol read: the refusal's number, the seed and the state in one number.
@@ -251,12 +212,7 @@ pub extern "C" fn ht_reader_step(
         aggregation,
         short_guard,
     );
-    let no_state = state >= 562949953421312;
-    if no_state {
-        return (12 + 4096 * (state % 562949953421312)) as i64;
-    }
-    let stepped = step::step(reader_of(open, state), points, payload);
-    stepped_number(stepped) as i64
+    step_call(open, state, points, payload)
 }
 
 // The place of the first point that a step from this state refuses.
@@ -285,9 +241,5 @@ pub extern "C" fn ht_reader_place(
         aggregation,
         short_guard,
     );
-    let no_state = state >= 562949953421312;
-    if no_state {
-        return refused(Refusal::Closed);
-    }
-    place_number(place::place(reader_of(open, state), points))
+    place_call(open, state, points)
 }

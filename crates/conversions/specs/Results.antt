@@ -10,9 +10,9 @@ use Rattle.laws.specs.Integers.{minus}
 use Rattle.settings.specs.declared.settings.RawSettings.{RawSettings}
 use Rattle.settings.specs.declared.settings.Refusal.{Refusal}
 use Rattle.settings.specs.declared.settings.Refusal.the-variants.{Room}
-use Rattle.settings.specs.declared.symbols.Count.{Count}
-use Rattle.settings.specs.declared.symbols.Count.the-variants.{Symbols, Refused as CountRefused}
-use Rattle.signal.specs.declared.ht_sig.SigFields.{SigFields}
+use Rattle.symbols.specs.declared.count.Count.{Count}
+use Rattle.symbols.specs.declared.count.Count.the-variants.{Symbols, Refused as CountRefused}
+use Rattle.sig_words.specs.declared.words.SigFields.{SigFields}
 use Rattle.signal.specs.declared.ht_sig.Written.{Written}
 use Rattle.signal.specs.declared.ht_sig.Written.the-variants.{Done, Refused as WriteRefused}
 use Rattle.signal.specs.declared.ht_sig.SigRead.{SigRead}
@@ -24,7 +24,7 @@ use Rattle.query.specs.declared.query.Carried.the-variants.{Silent, Pilot, Data
 use Rattle.query.specs.declared.query.QueryAnswer.{QueryAnswer}
 use Rattle.query.specs.declared.query.QueryAnswer.the-variants.{Carries, Refused as QueryRefused}
 use Rattle.settings.specs.Settings.{numberOf}
-use Rattle.signal.specs.HtSig.{oneIf}
+use Rattle.sig_words.specs.Words.{oneIf}
 
 -- a flag is off at 0 and on at any other number
 abbrev pub flagOn : ℕ → Bool

@@ -4,13 +4,13 @@ use query::query::QueryAnswer;
 use settings::settings::RawSettings;
 use settings::settings::Refusal;
 use settings::settings::number;
-use signal::ht_sig;
-use signal::ht_sig::SigFields;
+use sig_words::words;
+use sig_words::words::SigFields;
 ghost use mathlib.Core.Path.{_≡_};
 ghost use Prim.Native.Nat.{_<_, _≤_};
 ghost use lib.IntN.{pos};
 ghost use lib.ListN.{length as lengthOf};
-ghost use Rattle.signal.specs.Words.{SigFits};
+ghost use Rattle.sig_words.specs.Words.{SigFits};
 ghost use Rattle.laws.specs.Integers.{minus};
 ghost use Rattle.conversions.specs.Results.{rawOf, refusedResult, fieldsNumber, carriedNumber, carriedInto, IsRefusedQuery};
 
@@ -60,11 +60,11 @@ pub fn fields_number(g: SigFields) -> u64
     ensures { λ r. ⌜ (r ≡ fieldsNumber g) × (r < 268435456) ⌝ }
 {
     let wide = g.width == 40;
-    let flags = ht_sig::one(g.smoothing)
-        + 2 * ht_sig::one(g.not_sounding)
-        + 4 * ht_sig::one(g.aggregation)
-        + 8 * ht_sig::one(g.short_guard);
-    g.mcs + 128 * ht_sig::one(wide) + 256 * g.length + 16777216 * flags
+    let flags = words::one(g.smoothing)
+        + 2 * words::one(g.not_sounding)
+        + 4 * words::one(g.aggregation)
+        + 8 * words::one(g.short_guard);
+    g.mcs + 128 * words::one(wide) + 256 * g.length + 16777216 * flags
 }
 
 pub fn query_refusal(answer: QueryAnswer) -> Refusal

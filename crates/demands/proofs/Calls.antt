@@ -17,7 +17,7 @@ use Rattle.settings.specs.declared.settings.Settings.{Settings}
 use Rattle.settings.specs.declared.settings.Checked.the-variants.{Accepted}
 use Rattle.settings.specs.declared.settings.Refusal.the-variants.{Source, Place, Room}
 use Rattle.settings.specs.Settings.{checkOf, planFor, Right}
-use Rattle.settings.specs.Symbols.{symbolsOf}
+use Rattle.symbols.specs.Symbols.{symbolsOf}
 use Rattle.settings.proofs.SettingsLaws.{passed, plan-fits}
 use Rattle.subcarriers.specs.declared.layout.Use.{Use}
 use Rattle.subcarriers.specs.declared.layout.Use.the-variants.{Silent, Pilot, Data}

@@ -22,8 +22,9 @@ use Rattle.settings.specs.declared.settings.Checked.{Checked}
 use Rattle.settings.specs.declared.settings.Checked.the-variants.{Accepted, Refused}
 use Rattle.settings.specs.declared.settings.Refusal.the-variants.{Place, Room}
 use Rattle.settings.specs.Settings.{checkOf, planFor, Right}
-use Rattle.settings.specs.Symbols.{symbolsOf, countOf}
-use Rattle.settings.proofs.SettingsLaws.{passed, right, plan-fits, planned-width, symbols-least, symbols-some}
+use Rattle.symbols.specs.Symbols.{symbolsOf, countOf}
+use Rattle.settings.proofs.SettingsLaws.{passed, right, plan-fits, planned-width}
+use Rattle.symbols.proofs.CountLaws.{symbols-least, symbols-some}
 use Rattle.signal.specs.HtSig.{sigBytes, fieldsOf, writtenOf, writtenInto}
 use Rattle.signal.specs.declared.ht_sig.Written.{Written}
 use Rattle.signal.specs.declared.ht_sig.Written.the-variants.{Done, Refused as WriteRefused}

@@ -7,7 +7,7 @@ use Rattle.chain.specs.Puncture.{keptOf}
 use Rattle.chain.specs.Parser.{axisBits}
 use Rattle.chain.specs.Interleaver.{columns, rows, rotation, blockOf, byColumns, alternated, shiftOf, rotated, place}
 use Rattle.settings.specs.Settings.{planFor}
-use Rattle.settings.specs.Symbols.{symbolsOf}
+use Rattle.symbols.specs.Symbols.{symbolsOf}
 use Rattle.pilots.specs.Pilots.{patternOf, polarityBit, pilotSign}
 use Rattle.demands.specs.Worked.{checkedByHand}
 

@@ -9,9 +9,9 @@ use lib.Ieee.{Float}
 use Rattle.settings.specs.declared.settings.RawSettings.{RawSettings}
 use Rattle.settings.specs.declared.settings.Settings.{Settings}
 use Rattle.settings.specs.declared.settings.Checked.the-variants.{Accepted}
-use Rattle.settings.specs.declared.symbols.Count.{Count}
+use Rattle.symbols.specs.declared.count.Count.{Count}
 use Rattle.settings.specs.Settings.{checkOf, planFor}
-use Rattle.settings.specs.Symbols.{symbolsOf, countOf}
+use Rattle.symbols.specs.Symbols.{symbolsOf, countOf}
 use Rattle.subcarriers.specs.declared.layout.Use.the-variants.{Pilot}
 use Rattle.subcarriers.specs.Subcarriers.{placesOf, subcarrierAt, useOf}
 use Rattle.signal.specs.declared.ht_sig.Written.{Written}

@@ -2,7 +2,7 @@
 use mathlib.Core.List.{List, _++_}
 use Rattle.laws.specs.Claim.{Claim}
 use Rattle.chain.specs.Worked.{workedChain}
-use Rattle.settings.specs.Worked.{workedCounts}
+use Rattle.symbols.specs.Worked.{workedCounts}
 use Rattle.pilots.specs.Worked.{workedPilots}
 
 abbrev pub checkedByHand : List Claim

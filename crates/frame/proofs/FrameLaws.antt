@@ -14,8 +14,9 @@ use Rattle.coding.specs.Halves.{HalvesFilled, LabelsAsked}
 use Rattle.subcarriers.specs.Subcarriers.{placesOf}
 use Rattle.settings.specs.declared.settings.Settings.{Settings}
 use Rattle.settings.specs.Settings.{planFor, Right}
-use Rattle.settings.specs.Symbols.{symbolsOf}
-use Rattle.settings.proofs.SettingsLaws.{plan-fits, symbols-few}
+use Rattle.symbols.specs.Symbols.{symbolsOf}
+use Rattle.settings.proofs.SettingsLaws.{plan-fits}
+use Rattle.symbols.proofs.CountLaws.{symbols-few}
 use Rattle.frame.specs.Points.{inputOf, labelsOf, floatsOf}
 use Rattle.frame.specs.Asked.{InFrame, LabelsHeld}
 

@@ -20,7 +20,7 @@ use Rattle.settings.specs.declared.settings.Settings.{Settings}
 use Rattle.settings.specs.declared.settings.Checked.{Checked}
 use Rattle.settings.specs.declared.settings.Checked.the-variants.{Accepted, Refused}
 use Rattle.settings.specs.Settings.{checkOf, planFor, Right}
-use Rattle.settings.specs.Symbols.{symbolsOf}
+use Rattle.symbols.specs.Symbols.{symbolsOf}
 use Rattle.settings.proofs.SettingsLaws.{right, plan-fits}
 use Rattle.subcarriers.specs.Subcarriers.{placesOf}
 use Rattle.modulator.specs.Symbol.{streamFloats, symbolFloat}

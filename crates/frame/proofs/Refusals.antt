@@ -15,7 +15,7 @@ use Rattle.settings.specs.declared.settings.Refusal.the-variants.{Source, Place
 use Rattle.settings.specs.declared.settings.RawSettings.{RawSettings}
 use Rattle.settings.specs.declared.settings.Checked.{Checked}
 use Rattle.settings.specs.Settings.{settingsOf, checkOf}
-use Rattle.settings.specs.Symbols.{symbolsOf}
+use Rattle.symbols.specs.Symbols.{symbolsOf}
 use Rattle.settings.proofs.Refusals.{settingsRules, after-settings}
 use Rattle.frame.specs.declared.points.PointsAnswer.{PointsAnswer}
 use Rattle.frame.specs.declared.points.PointsAnswer.the-variants.{Written, Refused as PointsRefused}

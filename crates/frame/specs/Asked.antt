@@ -7,7 +7,7 @@ use lib.Ieee.{Float}
 use Rattle.chain.specs.Labels.{halvesOf}
 use Rattle.settings.specs.declared.settings.Settings.{Settings}
 use Rattle.settings.specs.Settings.{planFor, Right}
-use Rattle.settings.specs.Symbols.{symbolsOf}
+use Rattle.symbols.specs.Symbols.{symbolsOf}
 use Rattle.frame.specs.Points.{labelsOf, floatsOf}
 
 -- accepted settings with a whole payload, and a symbol of theirs

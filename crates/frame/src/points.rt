@@ -8,7 +8,7 @@ use settings::settings::Settings;
 use settings::settings::check;
 use settings::settings::plan_of;
 use settings::settings::refusal_of;
-use settings::symbols::symbols_of;
+use symbols::count::symbols_of;
 use subcarriers::layout::places_of;
 ghost use mathlib.Core.Path.{_≡_};
 ghost use Prim.Native.Nat.{_≤_};

@@ -9,12 +9,13 @@ use Rattle.settings.specs.declared.settings.Refusal.{Refusal}
 use Rattle.settings.specs.declared.settings.Refusal.the-variants.{Width, Mcs, Format, Length, Seed, Source, Place, Room, Point, Code, Frame, Closed, SigCrc, SigForm}
 use Rattle.settings.specs.declared.settings.Checked.{Checked}
 use Rattle.settings.specs.declared.settings.Checked.the-variants.{Accepted, Refused}
-use Rattle.settings.specs.declared.symbols.Count.the-variants.{Symbols, Refused as CountRefused}
-use Rattle.signal.specs.declared.ht_sig.SigFields.{SigFields}
+use Rattle.symbols.specs.declared.count.Count.the-variants.{Symbols, Refused as CountRefused}
+use Rattle.sig_words.specs.declared.words.SigFields.{SigFields}
 use Rattle.settings.specs.Settings.{checkOf, numberOf}
-use Rattle.settings.specs.Symbols.{symbolsOf, countOf}
+use Rattle.symbols.specs.Symbols.{symbolsOf, countOf}
 use Rattle.signal.specs.HtSig.{sigBytes, writtenInto}
-use Rattle.settings.proofs.SettingsLaws.{right, symbols-few}
+use Rattle.settings.proofs.SettingsLaws.{right}
+use Rattle.symbols.proofs.CountLaws.{symbols-few}
 use Rattle.signal.proofs.HtSigLaws.{rest-stays}
 use Rattle.lines.specs.declared.parsing.Parsed.{Parsed}
 use Rattle.lines.specs.declared.parsing.Parsed.the-variants.{Numbers, Malformed}

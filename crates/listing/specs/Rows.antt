@@ -8,7 +8,7 @@ use Rattle.settings.specs.declared.settings.Refusal.{Refusal}
 use Rattle.settings.specs.declared.settings.Checked.{Checked}
 use Rattle.settings.specs.declared.settings.Checked.the-variants.{Accepted, Refused}
 use Rattle.settings.specs.Settings.{checkOf, numberOf}
-use Rattle.settings.specs.Symbols.{symbolsOf}
+use Rattle.symbols.specs.Symbols.{symbolsOf}
 use Rattle.signal.specs.HtSig.{fieldsOf, sigBytes}
 use Rattle.lines.specs.declared.parsing.Parsed.{Parsed}
 use Rattle.lines.specs.declared.parsing.Parsed.the-variants.{Numbers, Malformed}

@@ -4,8 +4,8 @@ use lines::parsing::Parsed;
 use settings::settings::RawSettings;
 use settings::settings::Refusal;
 use settings::settings::number;
-use settings::symbols;
-use settings::symbols::Count;
+use symbols::count;
+use symbols::count::Count;
 use signal::ht_sig;
 use text::printing;
 use text::printing::Row;
@@ -81,7 +81,7 @@ fn answered_row(mcs: u64, width: u64, length: u64) -> Row
 {
     let inputs = inputs_row(mcs, width, length);
     let raw = raw_for(mcs, width, length);
-    match symbols::symbol_count(raw) {
+    match count::symbol_count(raw) {
         Count::Refused(r) => refused_row(inputs, r),
         Count::Symbols(n) => {
             let sig = sig_bytes(raw);

@@ -33,7 +33,7 @@ use Rattle.settings.specs.declared.settings.Settings.{Settings}
 use Rattle.settings.specs.declared.settings.Checked.{Checked}
 use Rattle.settings.specs.declared.settings.Checked.the-variants.{Accepted, Refused}
 use Rattle.settings.specs.Settings.{planFor, Right}
-use Rattle.settings.specs.Symbols.{symbolsOf}
+use Rattle.symbols.specs.Symbols.{symbolsOf}
 use Rattle.settings.proofs.SettingsLaws.{plan-fits, planned-width}
 use Rattle.frame.specs.Points.{labelsOf}
 use Rattle.frame.specs.Asked.{InFrame, LabelsHeld}

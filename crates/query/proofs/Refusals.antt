@@ -17,7 +17,7 @@ use Rattle.settings.specs.declared.settings.Refusal.the-variants.{Source, Place
 use Rattle.settings.specs.declared.settings.RawSettings.{RawSettings}
 use Rattle.settings.specs.declared.settings.Checked.{Checked}
 use Rattle.settings.specs.Settings.{settingsOf, checkOf, planFor}
-use Rattle.settings.specs.Symbols.{symbolsOf}
+use Rattle.symbols.specs.Symbols.{symbolsOf}
 use Rattle.settings.proofs.Refusals.{settingsRules, after-settings}
 use Rattle.frame.proofs.Refusals.{at-most, sourceRule}
 use Rattle.query.specs.declared.query.Carried.{Carried}

@@ -16,7 +16,7 @@ use Rattle.settings.specs.declared.settings.Settings.{Settings}
 use Rattle.settings.specs.declared.settings.Checked.{Checked}
 use Rattle.settings.specs.declared.settings.Checked.the-variants.{Accepted, Refused}
 use Rattle.settings.specs.Settings.{numberOf, planFor}
-use Rattle.settings.specs.Symbols.{symbolsOf}
+use Rattle.symbols.specs.Symbols.{symbolsOf}
 use Rattle.frame.specs.Points.{labelsOf}
 use Rattle.query.specs.declared.query.Carried.{Carried}
 use Rattle.query.specs.declared.query.Carried.the-variants.{Silent, Pilot, Data}

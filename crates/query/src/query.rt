@@ -13,7 +13,7 @@ use settings::settings::Settings;
 use settings::settings::check;
 use settings::settings::plan_of;
 use settings::settings::refusal_of;
-use settings::symbols::symbols_of;
+use symbols::count::symbols_of;
 use subcarriers::layout::Use;
 use subcarriers::layout::is_outside;
 use subcarriers::layout::use_of;

@@ -18,7 +18,7 @@ use Rattle.chain.proofs.ScramblerLaws.{seed-ext}
 use Rattle.settings.specs.declared.settings.Settings.{Settings}
 use Rattle.settings.specs.declared.settings.Refusal.the-variants.{Frame}
 use Rattle.settings.specs.Settings.{planFor, Right}
-use Rattle.settings.specs.Symbols.{symbolsOf}
+use Rattle.symbols.specs.Symbols.{symbolsOf}
 use Rattle.settings.proofs.SettingsLaws.{plan-fits}
 use Rattle.deframer.specs.Deframed.{plainBit, framed, PlainAsked, FramedAsked}
 use Rattle.assembler.specs.Assembled.{payloadBefore, byteOf, partOf, knownBit}

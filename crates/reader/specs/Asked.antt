@@ -7,7 +7,7 @@ use lib.ListN.{length, getD}
 use lib.Ieee.{Float}
 use Rattle.settings.specs.declared.settings.Settings.{Settings}
 use Rattle.settings.specs.Settings.{planFor, Right}
-use Rattle.settings.specs.Symbols.{symbolsOf}
+use Rattle.symbols.specs.Symbols.{symbolsOf}
 use Rattle.frame.specs.Points.{floatsOf}
 use Rattle.deframer.specs.Deframed.{framed}
 use Rattle.assembler.specs.Assembled.{PayloadAsked}

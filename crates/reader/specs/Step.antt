@@ -15,7 +15,7 @@ use Rattle.settings.specs.declared.settings.Settings.{Settings}
 use Rattle.settings.specs.declared.settings.Checked.{Checked}
 use Rattle.settings.specs.declared.settings.Checked.the-variants.{Accepted, Refused}
 use Rattle.settings.specs.Settings.{numberOf, checkOf, planFor}
-use Rattle.settings.specs.Symbols.{symbolsOf}
+use Rattle.symbols.specs.Symbols.{symbolsOf}
 use Rattle.subcarriers.specs.Subcarriers.{subcarrierAt}
 use Rattle.frame.specs.Points.{floatsOf}
 use Rattle.detector.specs.declared.search.Search.{Search}

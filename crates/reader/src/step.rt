@@ -17,7 +17,7 @@ use settings::settings::Refusal;
 use settings::settings::Settings;
 use settings::settings::check;
 use settings::settings::plan_of;
-use settings::symbols::symbols_of;
+use symbols::count::symbols_of;
 use subcarriers::layout::subcarrier_of;
 ghost use mathlib.Core.Path.{_≡_};
 ghost use mathlib.Core.Bool.{_&&_};

@@ -18,7 +18,8 @@ use Rattle.settings.specs.declared.settings.Settings.{Settings}
 use Rattle.settings.specs.declared.settings.Checked.{Checked}
 use Rattle.settings.specs.declared.settings.Checked.the-variants.{Accepted, Refused}
 use Rattle.settings.specs.Settings.{checkOf, planFor, Right}
-use Rattle.settings.proofs.SettingsLaws.{right, symbols-few}
+use Rattle.settings.proofs.SettingsLaws.{right}
+use Rattle.symbols.proofs.CountLaws.{symbols-few}
 use Rattle.subcarriers.specs.Subcarriers.{subcarrierFrom, subcarrierAt}
 use Rattle.subcarriers.proofs.SubcarrierLaws.{inside-wide, place-used-for}
 use Rattle.frame.specs.Points.{floatsOf}

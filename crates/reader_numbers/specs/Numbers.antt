@@ -8,7 +8,7 @@ use lib.IntN.{ℤ, pos, _+ℤ_}
 use lib.Ieee.{Float}
 use Rattle.settings.specs.declared.settings.Refusal.the-variants.{Closed}
 use Rattle.subcarriers.specs.Subcarriers.{Inside}
-use Rattle.signal.specs.HtSig.{oneIf}
+use Rattle.sig_words.specs.Words.{oneIf}
 use Rattle.reader_state.specs.declared.state.OpenSettings.{OpenSettings}
 use Rattle.reader_state.specs.declared.state.Reader.{Reader}
 use Rattle.reader_state.specs.declared.state.StartAnswer.{StartAnswer}

@@ -6,7 +6,7 @@ use reader_place::place::PlaceAnswer;
 use reader_state::state::OpenSettings;
 use reader_state::state::Reader;
 use settings::settings::number;
-use signal::ht_sig::one;
+use sig_words::words::one;
 use subcarriers::layout::index;
 ghost use mathlib.Core.Path.{_≡_};
 ghost use Prim.Native.Nat.{_*_, _<_};

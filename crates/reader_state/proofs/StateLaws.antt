@@ -15,8 +15,9 @@ use Rattle.chain.specs.declared.plan.Plan.{Plan}
 use Rattle.settings.specs.declared.settings.Settings.{Settings}
 use Rattle.settings.specs.declared.settings.Checked.the-variants.{Accepted}
 use Rattle.settings.specs.Settings.{checkOf, planFor, Right}
-use Rattle.settings.specs.Symbols.{symbolsOf}
-use Rattle.settings.proofs.SettingsLaws.{right, plan-fits, symbols-few}
+use Rattle.symbols.specs.Symbols.{symbolsOf}
+use Rattle.settings.proofs.SettingsLaws.{right, plan-fits}
+use Rattle.symbols.proofs.CountLaws.{symbols-few}
 use Rattle.assembler.specs.Assembled.{payloadBefore}
 use Rattle.reader_state.specs.declared.state.Reader.{Reader}
 use Rattle.reader_state.specs.State.{InRange, openRaw, historyOf, firstBit, badScrambler, badPart, closedOf}

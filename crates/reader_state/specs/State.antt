@@ -10,7 +10,7 @@ use Rattle.settings.specs.declared.settings.Settings.{Settings}
 use Rattle.settings.specs.declared.settings.Checked.{Checked}
 use Rattle.settings.specs.declared.settings.Checked.the-variants.{Accepted, Refused}
 use Rattle.settings.specs.Settings.{numberOf, checkOf, planFor}
-use Rattle.settings.specs.Symbols.{symbolsOf}
+use Rattle.symbols.specs.Symbols.{symbolsOf}
 use Rattle.assembler.specs.Assembled.{payloadBefore}
 use Rattle.reader_state.specs.declared.state.OpenSettings.{OpenSettings}
 use Rattle.reader_state.specs.declared.state.Reader.{Reader}

@@ -1,4 +1,2 @@
 pub mod Settings
-pub mod Worked
-pub mod Symbols
 pub mod Statements

@@ -8,7 +8,7 @@ use lib.ListN.{length, getD, take, drop, set, length-append}
 use lib.Arith.{mod-mul}
 use lib.Pow.{pow-pos}
 use Rattle.signal.specs.HtSig.{low, value, packed, bitsIn, field}
-use Rattle.signal.specs.Words.{sixOf, wordIn}
+use Rattle.sig_words.specs.Words.{sixOf, wordIn}
 use Rattle.signal.specs.Statements.{AreBytes}
 
 -- ---- bits
@@ -103,36 +103,6 @@ packed-low (suc n) x =
   where
     more : (n : ℕ) → suc n * 8 ≡ 8 + n * 8
     more n = omega arith
-
--- ---- six stores
-
--- six stores at the first six places
-pub six-set : (l : List ℕ) (a b c d e f : ℕ) → 6 ≤ length l → set (set (set (set (set (set l 0 a) 1 b) 2 c) 3 d) 4 e) 5 f ≡ (a ∷ b ∷ c ∷ d ∷ e ∷ f ∷ []) ++ drop 6 l
-six-set ([]) a b c d e f h = absurd (short h)
-  where
-    short : 6 ≤ 0 → ⊥
-    short h = omega arith
-six-set (x0 ∷ []) a b c d e f h = absurd (short h)
-  where
-    short : 6 ≤ 1 → ⊥
-    short h = omega arith
-six-set (x0 ∷ x1 ∷ []) a b c d e f h = absurd (short h)
-  where
-    short : 6 ≤ 2 → ⊥
-    short h = omega arith
-six-set (x0 ∷ x1 ∷ x2 ∷ []) a b c d e f h = absurd (short h)
-  where
-    short : 6 ≤ 3 → ⊥
-    short h = omega arith
-six-set (x0 ∷ x1 ∷ x2 ∷ x3 ∷ []) a b c d e f h = absurd (short h)
-  where
-    short : 6 ≤ 4 → ⊥
-    short h = omega arith
-six-set (x0 ∷ x1 ∷ x2 ∷ x3 ∷ x4 ∷ []) a b c d e f h = absurd (short h)
-  where
-    short : 6 ≤ 5 → ⊥
-    short h = omega arith
-six-set (x0 ∷ x1 ∷ x2 ∷ x3 ∷ x4 ∷ x5 ∷ l) a b c d e f h = refl
 
 -- ---- bits of numbers
 

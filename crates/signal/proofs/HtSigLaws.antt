@@ -21,13 +21,14 @@ use Rattle.settings.specs.declared.settings.RawSettings.{RawSettings}
 use Rattle.settings.specs.declared.settings.Settings.{Settings}
 use Rattle.settings.specs.declared.settings.Checked.{Checked}
 use Rattle.settings.specs.declared.settings.Checked.the-variants.{Accepted, Refused}
-use Rattle.signal.specs.declared.ht_sig.SigFields.{SigFields}
+use Rattle.sig_words.specs.declared.words.SigFields.{SigFields}
 use Rattle.signal.specs.declared.ht_sig.Written.the-variants.{Done, Refused as WriteRefused}
 use Rattle.signal.specs.declared.ht_sig.SigRead.{SigRead}
 use Rattle.signal.specs.declared.ht_sig.SigRead.the-variants.{Fields, Refused as ReadRefused}
 use Rattle.settings.specs.Settings.{checkOf, settingsOf, Right}
-use Rattle.signal.specs.HtSig.{oneIf, low, value, packed, ones, shiftedOver, crcBits, headBits, sigBits, sigBytes, fieldsOf, writtenOf, writtenInto, writtenNumber, bitsIn, field, SourceRow, CrcRow, crcWrong, FormRow, formWrong, fieldsIn, readOf, readNumber}
-use Rattle.signal.specs.Words.{headWord, crcRun, crcField, sigWord, sixOf, wordIn, wordCrcWrong, wordFormWrong, fieldsInWord, SigFits}
+use Rattle.signal.specs.HtSig.{low, value, packed, ones, shiftedOver, crcBits, headBits, sigBits, sigBytes, fieldsOf, writtenOf, writtenInto, writtenNumber, bitsIn, field, SourceRow, CrcRow, crcWrong, FormRow, formWrong, fieldsIn, readOf, readNumber}
+use Rattle.sig_words.specs.Words.{oneIf, headWord, crcRun, crcField, sigWord, sixOf, wordIn, wordCrcWrong, wordFormWrong, fieldsInWord, SigFits}
+use Rattle.sig_words.proofs.WordLaws.{same-fields}
 use Rattle.signal.specs.Statements.{AreBytes, ReadExactly, ReadRefusals, RoomRow, WriteRefusals}
 use Rattle.settings.proofs.SettingsLaws.{right, accepted-is}
 use Rattle.settings.proofs.Refusals.{settingsRules, after-settings}
@@ -160,18 +161,6 @@ form-in w =
     form-with w (low-field w) (field-of 48 8 16 w (omega arith)) (field-of 48 26 1 w (omega arith)) (field-of 48 28 2 w (omega arith)) (field-of 48 30 1 w (omega arith))
     (field-of 48 32 2 w (omega arith)) (field-of 48 42 6 w (omega arith))
 
-same-fields : {x y : SigFields} → x .width ≡ y .width → x .mcs ≡ y .mcs → x .length ≡ y .length → x .smoothing ≡ y .smoothing
-    → x .«not_sounding» ≡ y .«not_sounding» → x .aggregation ≡ y .aggregation → x .«short_guard» ≡ y .«short_guard» → x ≡ y
-same-fields a b c d e f g = λ i. record {
-  width = a i;
-  mcs = b i;
-  length = c i;
-  smoothing = d i;
-  «not_sounding» = e i;
-  aggregation = f i;
-  «short_guard» = g i;
-}
-
 -- and the fields
 pub fields-in-word : (w : ℕ) → fieldsIn (low 48 w) ≡ fieldsInWord w
 unfolding fieldsIn fieldsInWord
@@ -214,39 +203,6 @@ read-by l w b c g h k e p q r =
     ∙ ap (λ (x : Bool). byTests false (wordCrcWrong (wordIn l)) x g) v
     ∙ ap (λ (x : SigFields). byTests false (wordCrcWrong (wordIn l)) (wordFormWrong (wordIn l)) x) z
     ∙ sym (read-word l h k)
-
--- for the code: the width by its bit
-pub width-in : (w r : ℕ) → (w / 128 % 2 ≡ 1 → r ≡ 40) → ((w / 128 % 2 ≡ 1 → ⊥) → r ≡ 20) → r ≡ cond (eqb (w / 128 % 2) 1) 40 20
-width-in w r f g = go (eqb (w / 128 % 2) 1) refl
-  where
-    go : (b : Bool) → eqb (w / 128 % 2) 1 ≡ b → r ≡ cond b 40 20
-    go true e = f (eqb-true (w / 128 % 2) 1 e)
-    go false e = g (eqb-false (w / 128 % 2) 1 e)
-
--- for the code: the fields with that width
-pub fields-with : (w r : ℕ) → r ≡ cond (eqb (w / 128 % 2) 1) 40 20
-    → record {
-      width = r;
-      mcs = w % 128;
-      length = w / 256 % 65536;
-      smoothing = eqb (w / 16777216 % 2) 1;
-      «not_sounding» = eqb (w / 33554432 % 2) 1;
-      aggregation = eqb (w / 134217728 % 2) 1;
-      «short_guard» = eqb (w / 2147483648 % 2) 1;
-    } ≡ fieldsInWord w
-unfolding fieldsInWord
-fields-with w r e = same-fields e refl refl refl refl refl refl
-
--- for the code: the whole number
-pub word-with : (g : SigFields) (h r f : ℕ) → h ≡ headWord g → r ≡ crcRun 34 255 h → f ≡ crcField r → h + 17179869184 * f ≡ sigWord g
-unfolding sigWord
-word-with g h r f p q e =
-    ap (λ (x : ℕ). h + 17179869184 * x) (e ∙ ap crcField (q ∙ ap (crcRun 34 255) p)) ∙ ap (λ (x : ℕ). x + 17179869184 * crcField (crcRun 34 255 (headWord g))) p
-
--- for the code: the test of the CRC
-pub crc-with : (w r f : ℕ) → r ≡ crcRun 34 255 (w % 17179869184) → f ≡ crcField r → not (eqb (w / 17179869184 % 256) f) ≡ wordCrcWrong w
-unfolding wordCrcWrong
-crc-with w r f q e = ap (λ (x : ℕ). not (eqb (w / 17179869184 % 256) x)) (e ∙ ap crcField q)
 
 -- ---- what is written is read
 

@@ -10,10 +10,10 @@ use lib.Pow.{pow-pos}
 use lib.ListN.{length, take, drop}
 use Rattle.settings.specs.declared.settings.Refusal.{Refusal}
 use Rattle.settings.specs.declared.settings.Refusal.the-variants.{Source, SigCrc, SigForm}
-use Rattle.signal.specs.declared.ht_sig.SigFields.{SigFields}
+use Rattle.sig_words.specs.declared.words.SigFields.{SigFields}
 use Rattle.signal.specs.declared.ht_sig.SigRead.the-variants.{Fields, Refused}
 use Rattle.signal.specs.HtSig.{low, value, bitsIn, field, crcWrong, formWrong, fieldsIn, readOf}
-use Rattle.signal.specs.Words.{SigFits}
+use Rattle.sig_words.specs.Words.{SigFits}
 use Rattle.signal.proofs.Bits.{Two, two-low, two-append}
 
 two-in : (l : List ℕ) → Two (bitsIn l)

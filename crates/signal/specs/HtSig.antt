@@ -10,17 +10,15 @@ use Rattle.settings.specs.declared.settings.Refusal.the-variants.{Source, Room,
 use Rattle.settings.specs.declared.settings.Settings.{Settings}
 use Rattle.settings.specs.declared.settings.Checked.{Checked}
 use Rattle.settings.specs.declared.settings.Checked.the-variants.{Accepted, Refused}
-use Rattle.signal.specs.declared.ht_sig.SigFields.{SigFields}
+use Rattle.sig_words.specs.declared.words.SigFields.{SigFields}
 use Rattle.signal.specs.declared.ht_sig.Written.{Written}
 use Rattle.signal.specs.declared.ht_sig.Written.the-variants.{Done, Refused as WriteRefused}
 use Rattle.signal.specs.declared.ht_sig.SigRead.{SigRead}
 use Rattle.signal.specs.declared.ht_sig.SigRead.the-variants.{Fields, Refused as ReadRefused}
 use Rattle.settings.specs.Settings.{numberOf}
+use Rattle.sig_words.specs.Words.{oneIf}
 
 -- ---- bits and bytes
-
-abbrev pub oneIf : Bool → ℕ
-oneIf b = cond b 1 0
 
 -- "low bit of each number first": the k low bits of x
 abbrev pub low : ℕ → ℕ → List ℕ

@@ -1,3 +1,2 @@
 pub mod HtSig
-pub mod Words
 pub mod Statements

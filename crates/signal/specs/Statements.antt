@@ -7,7 +7,7 @@ use lib.ListN.{length, getD}
 use Rattle.settings.specs.declared.settings.RawSettings.{RawSettings}
 use Rattle.settings.specs.declared.settings.Settings.{Settings}
 use Rattle.settings.specs.declared.settings.Checked.the-variants.{Accepted}
-use Rattle.signal.specs.declared.ht_sig.SigFields.{SigFields}
+use Rattle.sig_words.specs.declared.words.SigFields.{SigFields}
 use Rattle.signal.specs.declared.ht_sig.SigRead.the-variants.{Fields}
 use Rattle.settings.specs.Settings.{checkOf}
 use Rattle.settings.specs.Statements.{NoSettingsRow, SettingsRows}

@@ -1,94 +1,36 @@
-use mathlib.Core.Path.{_≡_, _∙_, sym, ap, subst}
-use mathlib.Core.Bool.{true, false}
-use mir.Facts.{toZ-ofZ}
-use lib.ListN.{length}
 use denote.Ref.{now}
+use mathlib.Core.Path.{_∙_, ap}
+use lib.ListN.{length}
+use mir.Facts.{toZ-ofZ}
 use Rattle.settings.specs.declared.settings.RawSettings.{RawSettings}
 use Rattle.settings.specs.Settings.{checkOf}
+use Rattle.query.specs.declared.query.QueryAnswer.{QueryAnswer}
 use Rattle.query.specs.Query.{queryOf}
-use Rattle.conversions.specs.Results.{rawOf, IsRefusedQuery}
-use Rattle.conversions.proofs.Put.{carrier-refused, carrier-by}
+use Rattle.conversions.specs.Results.{carrierResult, carrierInto}
 use borrow.Author.Needs.{needs}
 use Rattle.capi.proofs.ht_carrier.Statement.{statement}
 use Rattle.capi.proofs.ht_carrier.Tie as tie
 
-abbrev start : tie.After-subcarrier → tie.Start
-start k = k .before .before .before .before
-
--- the question's answer, for the numbers of the call
-asked : (k : tie.After-subcarrier) → let a = start k .args in
-    k .subcarrier .result
-    ≡ queryOf (checkOf (rawOf (a .width) (a .mcs) (a .format) (a .length) (a .seed) (a .smoothing) (a .not-sounding) (a .aggregation) (a .short-guard)))
-    (now (a .payload)) (a .symbol) (a .stream) (a .subcarrier)
-asked k =
-    let st = start k in
-    k .subcarrier .ensures
-    ∙ ap (queryOf (checkOf (k .before .raw-settings .result)) (now (st .args .payload)) (st .args .symbol) (st .args .stream)) (toZ-ofZ (st .fits .subcarrier))
-    ∙ ap (λ (s : RawSettings). queryOf (checkOf s) (now (st .args .payload)) (st .args .symbol) (st .args .stream) (st .args .subcarrier)) (k .before .raw-settings .ensures)
-
-returns : tie.Need-returns
-returns c =
-    let q = c .before in
-    let k = q .before .before .before in
-    let w = carrier-refused _ (q .query-refusal .result) (now (start k .args .out)) (sym (asked k) ∙ q .query-refusal .ensures) in
-    (search needs ∙ c .refused .ensures ∙ w .0, w .1)
-
-returns-2 : tie.Need-returns-2
-returns-2 c =
-    let g = c .before .before .before in
-    let k = g .before .before in
-    let w = carrier-by _ (g .answer .given .0 .0) (now (start k .args .out)) true (sym (asked k) ∙ g .answer .given .1) (c .before .if1 .taken) in
-    (search needs ∙ c .refused2 .ensures ∙ w .0, w .1)
-
-returns-3 : tie.Need-returns-3
-returns-3 c =
-    let p = c .before .before in
-    let e = p .before .before in
-    let g = e .before .before in
-    let k = g .before .before in
-    let w = carrier-by _ (g .answer .given .0 .0) (now (start k .args .out)) false (sym (asked k) ∙ g .answer .given .1) (e .if1 .left) in
-    (search needs ∙ p .put-carried .ensures .0 ∙ w .0, p .put-carried .ensures .1 ∙ w .1)
-
 raw-settings-requires : tie.Need-raw-settings-requires
 raw-settings-requires c κs = search needs
 
-subcarrier-requires : tie.Need-subcarrier-requires
-subcarrier-requires c κs = search needs
-
-enum-known-answer : tie.Need-enum-known-answer
-enum-known-answer c = search needs
-
-enum-told : tie.Need-enum-told
-enum-told c = search needs
-
-query-refusal-requires : tie.Need-query-refusal-requires
-query-refusal-requires c κs = subst IsRefusedQuery (sym (c .enum-told .given .1)) tt
-
-refused-requires : tie.Need-refused-requires
-refused-requires c κs = search needs
-
-refused-requires-2 : tie.Need-refused-requires-2
-refused-requires-2 c κs = search needs
-
-put-carried-requires : tie.Need-put-carried-requires
-put-carried-requires c κs = search needs
+carrier-call-requires : tie.Need-carrier-call-requires
+carrier-call-requires c κs = search needs
 
 same-length : tie.Need-same-length
 same-length c = search needs
 
+returns : tie.Need-returns
+returns c =
+    let w = c .before .before in
+    let r = w .before .before in
+    let st = r .before .before .before in
+    let a = st .args in
+    let e = ap (queryOf (checkOf (r .raw-settings .result)) (now (a .payload)) (a .symbol) (a .stream)) (toZ-ofZ (st .fits .subcarrier))
+        ∙ ap (λ (s : RawSettings). queryOf (checkOf s) (now (a .payload)) (a .symbol) (a .stream) (a .subcarrier)) (r .raw-settings .ensures) in (
+      search needs ∙ w .carrier-call .ensures .0 ∙ ap (λ (q : QueryAnswer). carrierResult q (length (now (a .out)))) e,
+      w .carrier-call .ensures .1 ∙ ap (λ (q : QueryAnswer). carrierInto q (now (a .out))) e,
+    )
+
 pub ht-carrier-spec : {M : Type 1} → statement M
-ht-carrier-spec =
-    tie.close
-    (tie.spec
-    raw-settings-requires
-    subcarrier-requires
-    enum-known-answer
-    enum-told
-    query-refusal-requires
-    refused-requires
-    returns
-    refused-requires-2
-    returns-2
-    put-carried-requires
-    same-length
-    returns-3)
+ht-carrier-spec = tie.close (tie.spec raw-settings-requires carrier-call-requires same-length returns)

@@ -1,78 +1,31 @@
-use Rattle.reader_state.specs.declared.state.OpenSettings.{OpenSettings}
-use Rattle.reader_numbers.specs.Numbers.{openOf, readerOf}
-use Prim.Native.Nat.{_+_, _*_, _%_}
-use mathlib.Core.Path.{_∙_, ap}
-use native.Mathlib.Omega.{arith}
 use denote.Ref.{now}
+use mathlib.Core.Path.{_∙_, ap}
 use lib.IntN.{pos}
-use mir.Syntax.{w64}
-use mir.Facts.{toZ-pos}
-use Rattle.reader_numbers.proofs.NumberLaws.{step-none, step-some, step-held}
+use lib.ListN.{length}
+use Rattle.reader_state.specs.declared.state.OpenSettings.{OpenSettings}
+use Rattle.reader_numbers.specs.Numbers.{stepResult, stepResultInto}
 use borrow.Author.Needs.{needs}
 use Rattle.capi.proofs.ht_reader_step.Statement.{statement}
 use Rattle.capi.proofs.ht_reader_step.Tie as tie
 
--- the settings of the call
-abbrev asked : tie.Start → OpenSettings
-asked a = openOf (a .args .width) (a .args .mcs) (a .args .format) (a .args .length) (a .args .smoothing) (a .args .not-sounding) (a .args .aggregation) (a .args .short-guard)
-
 open-settings-requires : tie.Need-open-settings-requires
 open-settings-requires c κs = search needs
 
-mul-result : tie.Need-mul-result
-mul-result c = search needs
-
-add-result : tie.Need-add-result
-add-result c = search needs
-
-cast-result : tie.Need-cast-result
-cast-result c = search needs
-
-returns : tie.Need-returns
-returns c =
-    let a = c .before .before .before .before in
-    let w = step-none (asked a) (a .args .state) (now (a .args .points)) (now (a .args .payload)) (c .if1 .taken) in
-    (toZ-pos w64 {n = 12 + 4096 * (a .args .state % 562949953421312)} (omega arith) ∙ ap pos (w .0), w .1)
-
-reader-of-requires : tie.Need-reader-of-requires
-reader-of-requires c κs = search needs
-
-step-requires : tie.Need-step-requires
-step-requires c κs = search needs
-
-stepped-number-requires : tie.Need-stepped-number-requires
-stepped-number-requires c κs =
-    let a = c .before .before .before .before .before .before .before .before .before in
-    let k = c .before .before .before .before in
-    step-held (asked a) (a .args .state) (now (a .args .points)) (k .reader-of .result) (c .before .before .step .result) _ (k .reader-of .ensures ∙ ap (λ (o : OpenSettings). readerOf o (a .args .state)) (c .before .before .before .before .before .before .open-settings .ensures)) (c .before .before .step .ensures .0)
-
-cast-result-2 : tie.Need-cast-result-2
-cast-result-2 c = search needs
+step-call-requires : tie.Need-step-call-requires
+step-call-requires c κs = search needs
 
 same-length : tie.Need-same-length
 same-length c = search needs
 
-returns-2 : tie.Need-returns-2
-returns-2 c =
-    let a = c .before .before .before .before .before .before .before .before .before .before in
-    let k = c .before .before .before .before .before in
-    let s = c .before .before .before .step in
-    let w = step-some (asked a) (a .args .state) (now (a .args .points)) (now (a .args .payload)) _ (k .reader-of .result) (s .result) (c .stepped-number .result) (c .before .before .before .before .before .before .if1 .left)
-    (k .reader-of .ensures ∙ ap (λ (o : OpenSettings). readerOf o (a .args .state)) (c .before .before .before .before .before .before .before .open-settings .ensures)) (s .ensures .0) (s .ensures .1) (c .stepped-number .ensures .0) in
-    (toZ-pos w64 {n = c .stepped-number .result} (omega (arith, c .stepped-number .ensures .1)) ∙ ap pos (w .0), w .1)
+returns : tie.Need-returns
+returns c =
+    let w = c .before .before in
+    let r = w .before .before in
+    let a = r .before .before .before .args in (
+      search needs ∙ w .step-call .ensures .0
+          ∙ ap (λ (o : OpenSettings). pos (stepResult o (a .state) (now (a .points)) (length (now (a .payload))))) (r .open-settings .ensures),
+      w .step-call .ensures .1 ∙ ap (λ (o : OpenSettings). stepResultInto o (a .state) (now (a .points)) (now (a .payload))) (r .open-settings .ensures),
+    )
 
 pub ht-reader-step-spec : {M : Type 1} → statement M
-ht-reader-step-spec =
-    tie.close
-    (tie.spec
-    open-settings-requires
-    mul-result
-    add-result
-    cast-result
-    returns
-    reader-of-requires
-    step-requires
-    stepped-number-requires
-    cast-result-2
-    same-length
-    returns-2)
+ht-reader-step-spec = tie.close (tie.spec open-settings-requires step-call-requires same-length returns)

@@ -6,7 +6,7 @@ use lib.ListN.{length}
 use denote.Ref.{now}
 use borrow.Author.Needs.{needs}
 use Rattle.settings.specs.Settings.{checkOf, IsRefused}
-use Rattle.settings.specs.Symbols.{symbolsOf}
+use Rattle.symbols.specs.Symbols.{symbolsOf}
 use Rattle.settings.specs.declared.settings.Checked.the-variants.{Accepted}
 use Rattle.settings.proofs.SettingsLaws.{right}
 use Rattle.frame.specs.Points.{floatsOf}

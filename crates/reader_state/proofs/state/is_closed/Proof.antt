@@ -4,7 +4,7 @@ use Prim.Native.Nat.{ℕ}
 use borrow.Author.Tests.{leb-false}
 use lib.Dec.{leb}
 use Rattle.laws.proofs.Reflect.{or-false}
-use Rattle.settings.specs.Symbols.{symbolsOf}
+use Rattle.symbols.specs.Symbols.{symbolsOf}
 use Rattle.reader_state.proofs.StateLaws.{closed-past, closed-by, symbol-few}
 use borrow.Author.Needs.{needs}
 use Rattle.reader_state.proofs.state.is_closed.Statement.{statement}

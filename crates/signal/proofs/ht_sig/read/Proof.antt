@@ -2,7 +2,7 @@ use native.Mathlib.Omega.{arith}
 use mathlib.Core.Path.{_∙_, sym, refl}
 use mathlib.Core.Bool.{true, false}
 use denote.Ref.{now}
-use Rattle.signal.specs.Words.{fieldsInWord}
+use Rattle.sig_words.specs.Words.{fieldsInWord}
 use Rattle.signal.proofs.HtSigLaws.{read-short, read-by}
 use borrow.Author.Needs.{needs}
 use Rattle.signal.proofs.ht_sig.read.Statement.{statement}

@@ -1,7 +1,7 @@
 use mathlib.Core.Path.{_∙_, sym, ap, subst}
 use denote.Ref.{now}
 use Rattle.settings.specs.Settings.{checkOf, IsRefused}
-use Rattle.signal.specs.Words.{SigFits, sigWord}
+use Rattle.sig_words.specs.Words.{SigFits, sigWord}
 use Rattle.settings.proofs.SettingsLaws.{right}
 use Rattle.signal.proofs.HtSigLaws.{refused-write, no-room, wrote, sig-fits}
 use borrow.Author.Needs.{needs}

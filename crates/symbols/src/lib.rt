@@ -1,0 +1,2 @@
+// The symbol count of settings.
+pub mod count;
