@@ -17,7 +17,7 @@ use Rattle.laws.proofs.Filling.{fill-at}
 use Rattle.laws.proofs.Reflect.{or-false}
 use Rattle.chain.specs.declared.plan.Plan.{Plan}
 use Rattle.chain.specs.Decoder.{decodedInput, decodes}
-use Rattle.settings.specs.declared.settings.Refusal.the-variants.{Room, Code, Frame, Closed}
+use Rattle.settings.specs.declared.settings.Refusal.the-variants.{Room, Code, Closed}
 use Rattle.settings.specs.declared.settings.Settings.{Settings}
 use Rattle.settings.specs.declared.settings.Checked.{Checked}
 use Rattle.settings.specs.declared.settings.Checked.the-variants.{Accepted}
@@ -34,23 +34,19 @@ use Rattle.decoder.specs.Decoded.{historyMoved, SymbolAsked}
 use Rattle.deinterleaver.specs.Deinterleaved.{bitsIn}
 use Rattle.decoder.proofs.ExtLaws.{decoded-ext, decodes-ext, moved-ext}
 use Rattle.reader_state.specs.declared.state.Reader.{Reader}
-use Rattle.reader.specs.declared.step.StepAnswer.the-variants.{BadPoint, Refused as StepRefused}
-use Rattle.reader.specs.declared.step.Stepped.{Stepped}
+use Rattle.acceptance.specs.declared.accept.StepAnswer.the-variants.{BadPoint, Refused as StepRefused}
+use Rattle.acceptance.specs.declared.accept.Stepped.{Stepped}
 use Rattle.reader_state.specs.State.{InRange, openRaw, historyOf, closedOf, endedOf}
-use Rattle.reader.specs.Step.{answered, bytesInto, intoBy, movedWith, historiesAfter, acceptedWith, byFrame, heardInput, byCode, bySearch, noRoom, stepBy, stepOf, writtenBy, stepInto}
-use Rattle.reader.specs.Asked.{bitsOf, HeardInputs, FrameAsked, LabelsAsked, PointsAsked}
+use Rattle.acceptance.specs.Accepted.{answered, bytesInto, intoBy, byFrame}
+use Rattle.reader.specs.Step.{historiesAfter, heardInput, byCode, bySearch, noRoom, stepBy, stepOf, writtenBy, stepInto}
+use Rattle.acceptance.specs.Asked.{bitsOf, HeardInputs, FrameAsked}
+use Rattle.reader.specs.Asked.{LabelsAsked, PointsAsked}
 use Rattle.chain.proofs.DecodeLaws.{decoded-bit}
 use Rattle.reader_state.proofs.StateLaws.{symbol-few}
-use Rattle.reader.proofs.StepLaws.{scrambler-ext, frame-ext, left-ext, into-ext}
+use Rattle.acceptance.proofs.AcceptedLaws.{into-ext, frame-by}
 
 module _ (s : Settings) (right : Right s) (st : Reader) where
   -- by the symbol's own inputs
-  frame-by : (X X′ : ℕ → ℕ) (histories : List ℕ) → ((d : ℕ) → d < planFor s .dbps → X d ≡ X′ d) → byFrame s st X histories ≡ byFrame s st X′ histories
-  frame-by X X′ histories same =
-      let k = scrambler-ext s right st X X′ same in
-      ap₂ (λ (t : Bool) (w : Stepped). cond t w (answered (StepRefused Frame) (endedOf st))) (frame-ext s right st X X′ same)
-      (ap₂ answered (ap (acceptedWith st) k) (ap₂ (movedWith s st histories) k (left-ext s right st X X′ same)))
-
   histories-by : (X X′ : ℕ → ℕ) → ((d : ℕ) → d < planFor s .dbps → X d ≡ X′ d) → historiesAfter s st X ≡ historiesAfter s st X′
   histories-by X X′ same =
       ap₂ (λ (a b : ℕ). a ∷ (b ∷ []))
@@ -68,7 +64,7 @@ module _ (s : Settings) (right : Right s) (st : Reader) where
         → histories ≡ historiesAfter s st (heardInput s st lab) → HeardInputs s st (bitsOf inputs) histories r payload₀ payload
         → (r ≡ byCode s st lab) × (payload ≡ intoBy (r .answer) (bytesInto s st (heardInput s st lab) payload₀) payload₀)
     bits-heard histories r payload₀ payload e f h = (
-      h .stepped ∙ frame-by (bitsOf inputs) (heardInput s st lab) histories filled ∙ ap (byFrame s st (heardInput s st lab)) f ∙ simp e,
+      h .stepped ∙ frame-by s right st (bitsOf inputs) (heardInput s st lab) filled histories ∙ ap (byFrame s st (heardInput s st lab)) f ∙ simp e,
       h .written ∙ ap (λ (w : List ℕ). intoBy (r .answer) w payload₀) (into-ext s right st (bitsOf inputs) (heardInput s st lab) filled payload₀),
     )
 
@@ -81,7 +77,7 @@ module _ (s : Settings) (right : Right s) (st : Reader) where
     code-by =
         ap₂ (λ (t : Bool) (w : Stepped). cond t w (answered (StepRefused Code) (endedOf st)))
         (decodes-ext (planFor s) (plan-fits s right) (historyOf st) lab lab′ same)
-        (frame-by (heardInput s st lab) (heardInput s st lab′) (historiesAfter s st (heardInput s st lab)) heard-same
+        (frame-by s right st (heardInput s st lab) (heardInput s st lab′) heard-same (historiesAfter s st (heardInput s st lab))
         ∙ ap (byFrame s st (heardInput s st lab′)) (histories-by (heardInput s st lab) (heardInput s st lab′) heard-same))
 
     pub into-by : (payload : List ℕ) → bytesInto s st (heardInput s st lab) payload ≡ bytesInto s st (heardInput s st lab′) payload

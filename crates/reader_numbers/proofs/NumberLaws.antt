@@ -30,12 +30,13 @@ use Rattle.reader_state.specs.declared.state.OpenSettings.{OpenSettings}
 use Rattle.reader_state.specs.declared.state.Reader.{Reader}
 use Rattle.reader_state.specs.declared.state.StartAnswer.{StartAnswer}
 use Rattle.reader_state.specs.declared.state.Started.{Started}
-use Rattle.reader.specs.declared.step.StepAnswer.the-variants.{First, Next, Refused as StepRefused}
-use Rattle.reader.specs.declared.step.Stepped.{Stepped}
+use Rattle.acceptance.specs.declared.accept.StepAnswer.the-variants.{First, Next, Refused as StepRefused}
+use Rattle.acceptance.specs.declared.accept.Stepped.{Stepped}
 use Rattle.reader_place.specs.declared.place.PlaceAnswer.{PlaceAnswer}
 use Rattle.reader_place.specs.declared.place.PlaceAnswer.the-variants.{Refused as PlaceRefused}
 use Rattle.reader_state.specs.State.{openRaw, startBy, startOf, closedOf, endedOf}
-use Rattle.reader.specs.Step.{answered, scramblerFor, frameRight, bySearch, noRoom, stepOf, stepInto}
+use Rattle.acceptance.specs.Accepted.{answered, scramblerFor, frameRight}
+use Rattle.reader.specs.Step.{bySearch, noRoom, stepOf, stepInto}
 use Rattle.reader_place.specs.Place.{foundAs, placeBy, placeOf}
 use Rattle.reader.proofs.HearLaws.{place-few}
 use Rattle.conversions.specs.Results.{refusedResult}

@@ -14,7 +14,7 @@ use Rattle.reader_state.specs.declared.state.Reader.{Reader}
 use Rattle.reader_state.specs.declared.state.StartAnswer.{StartAnswer}
 use Rattle.reader_state.specs.declared.state.StartAnswer.the-variants.{Ready, Refused as StartRefused}
 use Rattle.reader_state.specs.declared.state.Started.{Started}
-use Rattle.reader.specs.declared.step.Stepped.{Stepped}
+use Rattle.acceptance.specs.declared.accept.Stepped.{Stepped}
 use Rattle.reader_place.specs.declared.place.PlaceAnswer.{PlaceAnswer}
 use Rattle.reader_place.specs.declared.place.PlaceAnswer.the-variants.{Passed, Found, Refused as PlaceRefused}
 use Rattle.reader.specs.Step.{stepOf, stepInto, stepNumber, stepSeed}

@@ -1,7 +1,7 @@
 // The reader's settings, states and answers as the numbers of the C calls.
+use acceptance::accept::StepAnswer;
+use acceptance::accept::Stepped;
 use conversions::refused;
-use reader::step::StepAnswer;
-use reader::step::Stepped;
 use reader_place::place::PlaceAnswer;
 use reader_state::state::OpenSettings;
 use reader_state::state::Reader;

@@ -37,13 +37,14 @@ use Rattle.deframer.specs.Deframed.{inputOk, framed}
 use Rattle.deframer.proofs.Framing.{T-true, framed-exactly, right-ok}
 use Rattle.reader_state.specs.declared.state.OpenSettings.{OpenSettings}
 use Rattle.reader_state.specs.declared.state.Reader.{Reader}
-use Rattle.reader.specs.declared.step.StepAnswer.{StepAnswer}
-use Rattle.reader.specs.declared.step.StepAnswer.the-variants.{First, Next, BadPoint, Refused as StepRefused}
-use Rattle.reader.specs.declared.step.Stepped.{Stepped}
+use Rattle.acceptance.specs.declared.accept.StepAnswer.{StepAnswer}
+use Rattle.acceptance.specs.declared.accept.StepAnswer.the-variants.{First, Next, BadPoint, Refused as StepRefused}
+use Rattle.acceptance.specs.declared.accept.Stepped.{Stepped}
 use Rattle.reader_place.specs.declared.place.PlaceAnswer.{PlaceAnswer}
 use Rattle.reader_place.specs.declared.place.PlaceAnswer.the-variants.{Passed, Found, Refused as PlaceRefused}
 use Rattle.reader_state.specs.State.{InRange, openRaw, startBy, startOf, startNumber, historyOf, firstBit, closedOf, endedOf}
-use Rattle.reader.specs.Step.{answered, scramblerFor, plainOf, frameRight, partLeft, intoBy, movedWith, historiesAfter, heardInput, bySearch, noRoom, stepBy, stepOf, writtenBy, stepNumber, stepStream, stepSubcarrier}
+use Rattle.acceptance.specs.Accepted.{answered, scramblerFor, plainOf, frameRight, partLeft, intoBy, movedWith}
+use Rattle.reader.specs.Step.{historiesAfter, heardInput, bySearch, noRoom, stepBy, stepOf, writtenBy, stepNumber, stepStream, stepSubcarrier}
 use Rattle.reader_place.specs.Place.{foundAs, placeBy, placeOf}
 use Rattle.verdicts.specs.Statements.{settingsIn, InReach, ClosedRow, RoomRow, PointRow, shownIn, inputIn, CodeRow, WrongBit, FrameRow, StepRefusals, FirstPlace, PlaceIsFirst, RefusedUnchanged, RefusedState, StartRefusals, PlaceTied}
 use Rattle.reader_state.proofs.StateLaws.{in-range, not-closed}

@@ -17,10 +17,11 @@ use Rattle.decoder.specs.Statements.{SomeInputs}
 use Rattle.deframer.specs.Statements.{RightBit}
 use Rattle.reader_state.specs.declared.state.OpenSettings.{OpenSettings}
 use Rattle.reader_state.specs.declared.state.Reader.{Reader}
-use Rattle.reader.specs.declared.step.StepAnswer.the-variants.{BadPoint}
+use Rattle.acceptance.specs.declared.accept.StepAnswer.the-variants.{BadPoint}
 use Rattle.reader_place.specs.declared.place.PlaceAnswer.the-variants.{Found}
 use Rattle.reader_state.specs.State.{InRange, openRaw, startOf, startNumber, historyOf, firstBit, endedOf}
-use Rattle.reader.specs.Step.{scramblerFor, plainOf, heardInput, stepOf, stepInto, stepNumber}
+use Rattle.acceptance.specs.Accepted.{scramblerFor, plainOf}
+use Rattle.reader.specs.Step.{heardInput, stepOf, stepInto, stepNumber}
 use Rattle.reader_place.specs.Place.{placeOf}
 
 -- ---- refusals: each "given exactly when" its row applies and none tested before it does; 0 where none applies

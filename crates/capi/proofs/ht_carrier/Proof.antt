@@ -27,7 +27,7 @@ returns c =
     let st = r .before .before .before in
     let a = st .args in
     let e = ap (queryOf (checkOf (r .raw-settings .result)) (now (a .payload)) (a .symbol) (a .stream)) (toZ-ofZ (st .fits .subcarrier))
-        ∙ ap (λ (s : RawSettings). queryOf (checkOf s) (now (a .payload)) (a .symbol) (a .stream) (a .subcarrier)) (r .raw-settings .ensures) in (
+    ∙ ap (λ (s : RawSettings). queryOf (checkOf s) (now (a .payload)) (a .symbol) (a .stream) (a .subcarrier)) (r .raw-settings .ensures) in (
       search needs ∙ w .carrier-call .ensures .0 ∙ ap (λ (q : QueryAnswer). carrierResult q (length (now (a .out)))) e,
       w .carrier-call .ensures .1 ∙ ap (λ (q : QueryAnswer). carrierInto q (now (a .out))) e,
     )

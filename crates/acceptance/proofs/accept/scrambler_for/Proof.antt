@@ -1,7 +1,7 @@
 use mathlib.Core.Path.{_∙_}
-use Rattle.reader.proofs.StepLaws.{scrambler-first, scrambler-later}
-use Rattle.reader.proofs.step.scrambler_for.Statement.{statement}
-use Rattle.reader.proofs.step.scrambler_for.Tie as tie
+use Rattle.acceptance.proofs.AcceptedLaws.{scrambler-first, scrambler-later}
+use Rattle.acceptance.proofs.accept.scrambler_for.Statement.{statement}
+use Rattle.acceptance.proofs.accept.scrambler_for.Tie as tie
 
 seed-of-requires : tie.Need-seed-of-requires
 seed-of-requires c κs = let a = c .before .before .before in (a .pre .seven, a .pre .one-bit)

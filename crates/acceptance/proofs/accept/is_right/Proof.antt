@@ -4,10 +4,10 @@ use native.Mathlib.Omega.{arith}
 use mathlib.Core.Bool.{Bool, _&&_}
 use lib.Dec.{ltb}
 use Rattle.reader_state.proofs.StateLaws.{bits-near, symbol-few}
-use Rattle.reader.proofs.StepLaws.{framed-asked, framed-by}
+use Rattle.acceptance.proofs.AcceptedLaws.{framed-asked, framed-by}
 use borrow.Author.Needs.{needs}
-use Rattle.reader.proofs.step.is_right.Statement.{statement}
-use Rattle.reader.proofs.step.is_right.Tie as tie
+use Rattle.acceptance.proofs.accept.is_right.Statement.{statement}
+use Rattle.acceptance.proofs.accept.is_right.Tie as tie
 
 plan-of-requires : tie.Need-plan-of-requires
 plan-of-requires c κs = search needs

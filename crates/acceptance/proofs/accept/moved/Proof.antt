@@ -1,9 +1,9 @@
 use native.Mathlib.Omega.{arith}
 use Rattle.reader_state.proofs.StateLaws.{symbol-few}
-use Rattle.reader.proofs.StepLaws.{moved-by}
+use Rattle.acceptance.proofs.AcceptedLaws.{moved-by}
 use borrow.Author.Needs.{needs}
-use Rattle.reader.proofs.step.moved.Statement.{statement}
-use Rattle.reader.proofs.step.moved.Tie as tie
+use Rattle.acceptance.proofs.accept.moved.Statement.{statement}
+use Rattle.acceptance.proofs.accept.moved.Tie as tie
 
 plan-of-requires : tie.Need-plan-of-requires
 plan-of-requires c κs = search needs

@@ -1,4 +1,4 @@
--- The step's definitions look at the symbol's own inputs only, and what the code computes from lists is what they say. Assumes nothing.
+-- The definitions from a symbol's inputs on look at the symbol's own inputs only, and what the code computes from lists is what they say. Assumes nothing.
 use mathlib.Core.Path.{_≡_, _∙_, refl, sym, ap, ap₂}
 use mathlib.Core.Bool.{Bool, true, false, cond, _&&_}
 use mathlib.Core.List.{List, _∷_, _++_}
@@ -26,11 +26,12 @@ use Rattle.assembler.proofs.Packing.{packed-ext}
 use Rattle.deframer.proofs.Framing.{framed-ext}
 use Rattle.assembler.proofs.KnownBits.{known-ext}
 use Rattle.reader_state.specs.declared.state.Reader.{Reader}
-use Rattle.reader.specs.declared.step.StepAnswer.{StepAnswer}
-use Rattle.reader.specs.declared.step.StepAnswer.the-variants.{First, Next, Refused as StepRefused}
+use Rattle.acceptance.specs.declared.accept.StepAnswer.{StepAnswer}
+use Rattle.acceptance.specs.declared.accept.StepAnswer.the-variants.{First, Next, Refused as StepRefused}
+use Rattle.acceptance.specs.declared.accept.Stepped.{Stepped}
 use Rattle.reader_state.specs.State.{firstBit, endedOf}
-use Rattle.reader.specs.Step.{answered, scramblerFor, plainOf, frameRight, bitsBefore, bitsAfter, knownOf, partLeft, bytesLeft, bytesInto, intoBy, movedWith, acceptedWith}
-use Rattle.reader.specs.Asked.{bitsOf, InputsHeld, ScramblerAsked, framedIn, RightAsked, BytesAsked, HeardInputs}
+use Rattle.acceptance.specs.Accepted.{answered, scramblerFor, plainOf, frameRight, bitsBefore, bitsAfter, knownOf, partLeft, bytesLeft, bytesInto, intoBy, movedWith, acceptedWith, byFrame}
+use Rattle.acceptance.specs.Asked.{bitsOf, InputsHeld, ScramblerAsked, framedIn, RightAsked, BytesAsked, HeardInputs}
 use Rattle.reader_state.proofs.StateLaws.{first-near, symbol-few}
 
 firsts-ext : {A : Type 0} (f g : ℕ → A) (n : ℕ) → ((k : ℕ) → k < n → f k ≡ g k) → firsts f n ≡ firsts g n
@@ -75,6 +76,11 @@ module _ (s : Settings) (right : Right s) (st : Reader) (X X′ : ℕ → ℕ) (
   pub into-ext : (payload : List ℕ) → bytesInto s st X payload ≡ bytesInto s st X′ payload
   unfolding bytesInto
   into-ext payload = bytes-ext s (st .symbol) (st .part) (plainOf st X) (plainOf st X′) plain-ext payload
+
+  pub frame-by : (histories : List ℕ) → byFrame s st X histories ≡ byFrame s st X′ histories
+  frame-by histories =
+      ap₂ (λ (t : Bool) (w : Stepped). cond t w (answered (StepRefused Frame) (endedOf st))) frame-ext
+      (ap₂ answered (ap (acceptedWith st) scrambler-ext) (ap₂ (movedWith s st histories) scrambler-ext left-ext))
 
 -- ---- what the code computes
 

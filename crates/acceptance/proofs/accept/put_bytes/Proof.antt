@@ -1,10 +1,10 @@
 use denote.Ref.{now}
 use native.Mathlib.Omega.{arith}
 use Rattle.reader_state.proofs.StateLaws.{bits-near, symbol-few}
-use Rattle.reader.proofs.StepLaws.{bytes-by, left-by}
+use Rattle.acceptance.proofs.AcceptedLaws.{bytes-by, left-by}
 use borrow.Author.Needs.{needs}
-use Rattle.reader.proofs.step.put_bytes.Statement.{statement}
-use Rattle.reader.proofs.step.put_bytes.Tie as tie
+use Rattle.acceptance.proofs.accept.put_bytes.Statement.{statement}
+use Rattle.acceptance.proofs.accept.put_bytes.Tie as tie
 
 plan-of-requires : tie.Need-plan-of-requires
 plan-of-requires c κs = search needs

@@ -1,11 +1,11 @@
-use Rattle.reader.specs.Asked.{bitsOf}
+use Rattle.acceptance.specs.Asked.{bitsOf}
 use mathlib.Core.Path.{_∙_, sym}
 use native.Mathlib.Omega.{arith}
 use denote.Ref.{now}
-use Rattle.reader.proofs.StepLaws.{scrambler-asked, plain-asked, right-asked, bytes-asked, plain-at, plain-small, heard-accepted, heard-refused}
+use Rattle.acceptance.proofs.AcceptedLaws.{scrambler-asked, plain-asked, right-asked, bytes-asked, plain-at, plain-small, heard-accepted, heard-refused}
 use borrow.Author.Needs.{needs}
-use Rattle.reader.proofs.step.hear_inputs.Statement.{statement}
-use Rattle.reader.proofs.step.hear_inputs.Tie as tie
+use Rattle.acceptance.proofs.accept.hear_inputs.Statement.{statement}
+use Rattle.acceptance.proofs.accept.hear_inputs.Tie as tie
 
 plan-of-requires : tie.Need-plan-of-requires
 plan-of-requires c κs = search needs

@@ -1,5 +1,5 @@
-use Rattle.reader.proofs.step.accepted_as.Statement.{statement}
-use Rattle.reader.proofs.step.accepted_as.Tie as tie
+use Rattle.acceptance.proofs.accept.accepted_as.Statement.{statement}
+use Rattle.acceptance.proofs.accept.accepted_as.Tie as tie
 
 returns : tie.Need-returns
 returns c = simp (c .if1 .taken)
