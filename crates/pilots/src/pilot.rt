@@ -9,7 +9,7 @@ ghost use lib.IntN.{_*ℤ_};
 ghost use Rattle.laws.specs.Test.{among};
 ghost use Rattle.mapper.specs.Levels.{whole};
 ghost use Rattle.subcarriers.specs.Subcarriers.{pilotsOf};
-ghost use Rattle.pilots.specs.Pilots.{signOf, patternOf, polarityBit, pilotSign, PilotAsked};
+ghost use Rattle.pilots.specs.Pilots.{signOf, patternOf, polarityBit, PilotAsked};
 
 // Tables 11 and 12 by rows, the one of one stream, the two of two, the three of three, the four of four: bit k is 1 where value k is a minus sign.
 const MINUS_20: [u8; 10] = [8, 12, 6, 12, 10, 9, 8, 4, 2, 1];

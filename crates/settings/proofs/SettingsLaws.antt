@@ -15,7 +15,6 @@ use Rattle.settings.specs.declared.settings.RawSettings.{RawSettings}
 use Rattle.settings.specs.declared.settings.Refusal.{Refusal}
 use Rattle.settings.specs.declared.settings.Refusal.the-variants.{Width, Mcs, Format, Length, Seed}
 use Rattle.settings.specs.declared.settings.Settings.{Settings}
-use Rattle.settings.specs.declared.settings.Checked.{Checked}
 use Rattle.settings.specs.declared.settings.Checked.the-variants.{Accepted, Refused}
 
 -- the answer where every test passes
