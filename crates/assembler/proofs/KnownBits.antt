@@ -13,7 +13,7 @@ use Rattle.laws.specs.Test.{every}
 use Rattle.laws.specs.Filled.{Filled}
 use Rattle.laws.proofs.Filling.{fill-at, fill-as}
 use Rattle.laws.proofs.Search.{lt-or-le, parts}
-use Rattle.inputs.proofs.Bytes.{all-zero}
+use Rattle.data_bits.proofs.Bytes.{all-zero}
 use Rattle.assembler.specs.Assembled.{packed, byteOf, partOf, knownBit, payloadBefore, PayloadAsked}
 use Rattle.assembler.specs.Asked.{LineAsked, KnownLine}
 use Rattle.assembler.proofs.Packing.{packed-as, packed-rest, packed-small}

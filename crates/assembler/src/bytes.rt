@@ -1,6 +1,6 @@
 // The payload's bytes that a symbol completes, and the part of a byte that it leaves.
+use data_bits::bits::put_byte;
 use deframer::bits::nibble;
-use inputs::bits::put_byte;
 ghost use mathlib.Core.Path.{_≡_};
 ghost use Prim.Native.Nat.{_+_, _-_, _*_, _/_, _≤_};
 ghost use lib.ListN.{getD};

@@ -1,5 +1,5 @@
 // Seed, descrambling, and whether service, tail and pad are right.
-use inputs::bits::below_mark;
+use data_bits::bits::below_mark;
 use scrambler::outputs::scrambler_outputs;
 use scrambler::register::jump;
 ghost use mathlib.Core.Path.{_≡_};

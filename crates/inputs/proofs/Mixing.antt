@@ -16,7 +16,8 @@ use Rattle.chain.specs.DataBits.{payloadBit, payloadEnd, tailEnd, dataBit, code
 use Rattle.chain.specs.Encoder.{withHistory}
 use Rattle.chain.proofs.ScramblerLaws.{output-on}
 use Rattle.chain.proofs.InputLaws.{input-before, input-tail, input-after, line-head, line-on}
-use Rattle.inputs.specs.Asked.{DataFilled, mixedBit}
+use Rattle.data_bits.specs.Asked.{DataFilled}
+use Rattle.inputs.specs.Asked.{mixedBit}
 
 module _ (raw outputs : ℕ → ℕ) (tail pad t : ℕ) where
   -- before the tail, in it and after it

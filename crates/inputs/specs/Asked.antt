@@ -1,13 +1,11 @@
 -- What the calls of this crate ask.
-use mathlib.Core.Path.{_≡_}
 use mathlib.Core.Bool.{cond, not}
 use mathlib.Core.List.{List}
-use Prim.Native.Nat.{ℕ, _+_, _*_, _%_, _<_, _≤_, _^_}
+use Prim.Native.Nat.{ℕ, _+_, _%_, _<_, _≤_, _^_}
 use lib.Dec.{T, ltb}
 use lib.ListN.{length, getD}
 use Rattle.laws.specs.Test.{both, among}
 use Rattle.chain.specs.Plan.{encoderCounts}
-use Rattle.chain.specs.DataBits.{payloadBit, dataBit}
 
 -- a line of encoder inputs from place `first` on, `count` of them, of a payload's first bytes
 pub record InputsAsked (line payload : List ℕ) (bytes encoders seed first count : ℕ) : Type 0 where
@@ -19,20 +17,6 @@ pub record InputsAsked (line payload : List ℕ) (bytes encoders seed first coun
   pub near : first ≤ 2 ^ 27
   pub some : 12 ≤ count
   pub few : count ≤ 2172
-
--- data bits by whole bytes: byte m of the data bits is bits 8·m to 8·m + 7
-pub record DataAsked (raw payload : List ℕ) (bytes from count : ℕ) : Type 0 where
-  pub room : 8 * count ≤ length raw
-  pub blank : (j : ℕ) → getD raw j 0 ≡ 0
-  pub whole : bytes ≤ length payload
-  pub short : bytes ≤ 65535
-  pub near : from ≤ 2 ^ 27
-  pub few : count ≤ 273
-
-pub record DataFilled (payload : List ℕ) (bytes from count : ℕ) (raw₀ raw : List ℕ) : Type 0 where
-  pub same : length raw ≡ length raw₀
-  pub done : (j : ℕ) → j < 8 * count → getD raw j 0 ≡ dataBit (payloadBit payload) bytes (8 * from + j)
-  pub bits : (j : ℕ) → getD raw j 0 < 2
 
 -- bit t of data bits and scrambler outputs together, the tail between two places zero
 abbrev pub mixedBit : (raw outputs : ℕ → ℕ) (tail pad t : ℕ) → ℕ

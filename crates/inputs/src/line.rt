@@ -1,6 +1,6 @@
 // The encoders' input line from any place on: histories, service, payload, tail and pad.
-use crate::bits::below_mark;
-use crate::bits::data_bits;
+use data_bits::bits::below_mark;
+use data_bits::bits::data_bits;
 use scrambler::outputs::scrambler_outputs;
 use scrambler::register::jump;
 ghost use Prim.Native.Nat.{_+_, _≤_};

@@ -3,7 +3,7 @@ use denote.Ref.{now}
 use borrow.Author.Needs.{needs}
 use Rattle.laws.proofs.Filling.{fill-at}
 use Rattle.chain.proofs.ScramblerLaws.{state-small, scrambler-bit}
-use Rattle.inputs.proofs.Bytes.{data-asked}
+use Rattle.data_bits.proofs.Bytes.{data-asked}
 use Rattle.inputs.proofs.Mixing.{inputs-filled}
 use Rattle.inputs.proofs.line.scrambled_inputs.Statement.{statement}
 use Rattle.inputs.proofs.line.scrambled_inputs.Tie as tie

@@ -5,9 +5,9 @@ use borrow.Author.Needs.{needs}
 use Rattle.laws.specs.Filled.{Filled}
 use Rattle.laws.proofs.Filling.{fill-none, fill-end}
 use Rattle.chain.specs.DataBits.{payloadBit}
-use Rattle.inputs.proofs.Bytes.{bytes-more}
-use Rattle.inputs.proofs.bits.put_bytes.Statement.{statement}
-use Rattle.inputs.proofs.bits.put_bytes.Tie as tie
+use Rattle.data_bits.proofs.Bytes.{bytes-more}
+use Rattle.data_bits.proofs.bits.put_bytes.Statement.{statement}
+use Rattle.data_bits.proofs.bits.put_bytes.Tie as tie
 
 abbrev Inv-loop : tie.InvT-loop
 Inv-loop raw₀ payload to from count m₀ raw m =

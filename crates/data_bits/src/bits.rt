@@ -4,7 +4,7 @@ ghost use Prim.Native.Nat.{_+_, _-_, _*_, _/_, _%_, _≤_, _^_, min};
 ghost use lib.ListN.{length};
 ghost use Rattle.laws.specs.Filled.{Filled};
 ghost use Rattle.chain.specs.DataBits.{payloadBit};
-ghost use Rattle.inputs.specs.Asked.{DataAsked, DataFilled};
+ghost use Rattle.data_bits.specs.Asked.{DataAsked, DataFilled};
 
 // The bits of a byte, low bit first.
 pub fn put_byte(raw: &mut [u8], at: usize, byte: u8)
@@ -47,7 +47,7 @@ pub fn below_mark(mark: usize, start: usize, count: usize) -> usize
 }
 
 // The data bits before scrambling, by whole bytes: two of service, the payload's, and zeros.
-pub(crate) fn data_bits(raw: &mut [u8], payload: &[u8], bytes: usize, from: usize, count: usize)
+pub fn data_bits(raw: &mut [u8], payload: &[u8], bytes: usize, from: usize, count: usize)
     requires { ⌜ DataAsked (now raw) (now payload) bytes from count ⌝ }
     ensures { λ _. ⌜ DataFilled (now (payload .entry)) bytes from count (now (raw .entry)) (now (raw .exit)) ⌝ }
 {

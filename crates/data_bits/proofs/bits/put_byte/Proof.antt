@@ -2,8 +2,8 @@ use native.Mathlib.Omega.{arith}
 use lib.ListN.{length-set}
 use borrow.Author.Needs.{needs}
 use Rattle.laws.proofs.Filling.{fill-none, fill-more}
-use Rattle.inputs.proofs.bits.put_byte.Statement.{statement}
-use Rattle.inputs.proofs.bits.put_byte.Tie as tie
+use Rattle.data_bits.proofs.bits.put_byte.Statement.{statement}
+use Rattle.data_bits.proofs.bits.put_byte.Tie as tie
 
 returns : tie.Need-returns
 returns c =

@@ -11,7 +11,7 @@ use Rattle.laws.proofs.Filling.{fill-from, fill-as, fill-join, fill-end}
 use Rattle.laws.proofs.Search.{parts}
 use Rattle.chain.specs.DataBits.{payloadBit}
 use Rattle.chain.proofs.InputLaws.{payload-bit, ranges, data-service, data-payload, data-zero}
-use Rattle.inputs.specs.Asked.{DataAsked, DataFilled}
+use Rattle.data_bits.specs.Asked.{DataAsked, DataFilled}
 
 -- a list of zeros is zero everywhere, past its end too
 pub all-zero : (l : List ℕ) → T (every (λ (x : ℕ). eqb x 0) l) → (j : ℕ) → getD l j 0 ≡ 0

@@ -1,9 +1,9 @@
 use native.Mathlib.Omega.{arith}
 use denote.Ref.{now}
 use borrow.Author.Needs.{needs}
-use Rattle.inputs.proofs.Bytes.{data-none, data-some}
-use Rattle.inputs.proofs.bits.data_bits.Statement.{statement}
-use Rattle.inputs.proofs.bits.data_bits.Tie as tie
+use Rattle.data_bits.proofs.Bytes.{data-none, data-some}
+use Rattle.data_bits.proofs.bits.data_bits.Statement.{statement}
+use Rattle.data_bits.proofs.bits.data_bits.Tie as tie
 
 returns : tie.Need-returns
 returns c =
