@@ -6,3 +6,4 @@ pub mod Search
 pub mod Refusing
 pub mod Reflect
 pub mod Integers
+pub mod Stretches

@@ -6,3 +6,4 @@ pub mod Firsts
 pub mod Scattered
 pub mod Refusals
 pub mod Integers
+pub mod Stretch

@@ -1,4 +1,1 @@
-pub mod Stretches
 pub mod LineLaws
-pub mod Values
-pub mod Grammar

@@ -8,9 +8,10 @@ use lib.Dec.{eqb, ltb}
 use lib.ListN.{length, take, drop, length-drop, drop-of-length-le}
 use lib.Seq.{drop-drop}
 use borrow.Author.Tests.{ltb-true, ltb-false}
+use Rattle.laws.specs.Stretch.{stretch}
+use Rattle.laws.proofs.Stretches.{ends-within}
 use Rattle.lines.specs.declared.lines.NextLine.the-variants.{Line, End}
-use Rattle.lines.specs.Lines.{linesFrom, linesOf, stretch, isInLine, nextLineOf}
-use Rattle.lines.proofs.Stretches.{ends-within}
+use Rattle.lines.specs.Lines.{linesFrom, linesOf, isInLine, nextLineOf}
 
 -- the line under way, the rest of it, and the lines behind the line feed
 pub lines-behind : (c : ℕ) (cs t : List ℕ)

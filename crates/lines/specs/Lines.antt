@@ -1,9 +1,10 @@
 -- Lines: "Each line, ended by a line feed or the end (an empty rest at the end is no line)" (document 01, 'Checked by hand').
 use mathlib.Core.Bool.{Bool, cond, not}
 use mathlib.Core.List.{List, [], _∷_, _++_}
-use Prim.Native.Nat.{ℕ, suc, _+_}
+use Prim.Native.Nat.{ℕ, _+_}
 use lib.Dec.{eqb, ltb}
 use lib.ListN.{length, drop}
+use Rattle.laws.specs.Stretch.{stretch}
 use Rattle.lines.specs.declared.lines.NextLine.{NextLine}
 use Rattle.lines.specs.declared.lines.NextLine.the-variants.{Line, End}
 
@@ -16,11 +17,6 @@ linesFrom (c ∷ cs) (b ∷ bs) = cond (eqb b 10) ((c ∷ cs) ∷ linesFrom [] b
 
 abbrev pub linesOf : List ℕ → List (List ℕ)
 linesOf text = linesFrom [] text
-
--- how many bytes at the front pass a test, up to the first that does not
-abbrev pub stretch : (ℕ → Bool) → List ℕ → ℕ
-stretch f [] = 0
-stretch f (b ∷ bs) = cond (f b) (suc (stretch f bs)) 0
 
 -- every byte but the line feed
 abbrev pub isInLine : ℕ → Bool

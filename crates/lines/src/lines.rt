@@ -3,7 +3,8 @@ ghost use mathlib.Core.Path.{_≡_};
 ghost use Prim.Native.Nat.{_+_, _≤_};
 ghost use lib.Dec.{ltb};
 ghost use lib.ListN.{length, drop};
-ghost use Rattle.lines.specs.Lines.{stretch, isInLine, nextLineOf};
+ghost use Rattle.laws.specs.Stretch.{stretch};
+ghost use Rattle.lines.specs.Lines.{isInLine, nextLineOf};
 
 // Whether the input has more than the 65,536 bytes that are read.
 pub fn too_long(input: &[u8]) -> bool

@@ -17,10 +17,10 @@ use Rattle.signal.specs.HtSig.{sigBytes, writtenInto}
 use Rattle.settings.proofs.SettingsLaws.{right}
 use Rattle.symbols.proofs.CountLaws.{symbols-few}
 use Rattle.signal.proofs.HtSigLaws.{rest-stays}
-use Rattle.lines.specs.declared.parsing.Parsed.{Parsed}
-use Rattle.lines.specs.declared.parsing.Parsed.the-variants.{Numbers, Malformed}
+use Rattle.parsing.specs.declared.numbers.Parsed.{Parsed}
+use Rattle.parsing.specs.declared.numbers.Parsed.the-variants.{Numbers, Malformed}
 use Rattle.text.specs.declared.printing.Row.{Row}
-use Rattle.lines.specs.Parsing.{parsedOf, Small}
+use Rattle.parsing.specs.Parsing.{parsedOf, Small}
 use Rattle.text.specs.Printing.{rowHolding, emptyRow, pushed, pushedAll, decimal, hexBytes}
 use Rattle.listing.specs.Rows.{rawFor, inputsText, refusedWord, refusedText, acceptedText, answerText, rowFor, malformedText, rowBy, rowOf, zeros}
 use Rattle.text.proofs.Decimals.{decimal-short}

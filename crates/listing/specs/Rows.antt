@@ -10,9 +10,9 @@ use Rattle.settings.specs.declared.settings.Checked.the-variants.{Accepted, Ref
 use Rattle.settings.specs.Settings.{checkOf, numberOf}
 use Rattle.symbols.specs.Symbols.{symbolsOf}
 use Rattle.signal.specs.HtSig.{fieldsOf, sigBytes}
-use Rattle.lines.specs.declared.parsing.Parsed.{Parsed}
-use Rattle.lines.specs.declared.parsing.Parsed.the-variants.{Numbers, Malformed}
-use Rattle.lines.specs.Parsing.{parsedOf}
+use Rattle.parsing.specs.declared.numbers.Parsed.{Parsed}
+use Rattle.parsing.specs.declared.numbers.Parsed.the-variants.{Numbers, Malformed}
+use Rattle.parsing.specs.Parsing.{parsedOf}
 use Rattle.text.specs.Printing.{decimal, hexBytes}
 
 -- "Format is 0, seed 1; smoothing and not sounding are 1, other flags 0"

@@ -1,6 +1,6 @@
 // The row of a line.
-use lines::parsing;
-use lines::parsing::Parsed;
+use parsing::numbers;
+use parsing::numbers::Parsed;
 use settings::settings::RawSettings;
 use settings::settings::Refusal;
 use settings::settings::number;
@@ -101,7 +101,7 @@ fn malformed_row() -> Row
 pub fn row(line: &[u8]) -> Row
     ensures { λ r. ⌜ r ≡ rowHolding (rowOf (now (line .entry))) ⌝ }
 {
-    let parsed = parsing::parse(line);
+    let parsed = numbers::parse(line);
     let Parsed::Numbers(mcs, width, length) = parsed else {
         return malformed_row();
     };

@@ -9,8 +9,8 @@ use borrow.Author.Tests.{ltb-true, ltb-false, lt-ltb, le-ltb, le-leb, lt-leb}
 use lib.Dec.{ltb, leb}
 use lib.ListN.{length, getD, length-append, List·getD-append}
 use Rattle.laws.proofs.Search.{lt-or-le}
-use Rattle.lines.specs.Parsing.{decimalValue, AllDigits}
-use Rattle.lines.proofs.Values.{tens, tens-next, tens-none, tens-five, value-snoc}
+use Rattle.parsing.specs.Parsing.{decimalValue, AllDigits}
+use Rattle.parsing.proofs.Values.{tens, tens-next, tens-none, tens-five, value-snoc}
 use Rattle.text.specs.Printing.{digitsOf, decimal, digitIf}
 
 -- ---- the digits of a number

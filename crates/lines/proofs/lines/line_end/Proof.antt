@@ -4,8 +4,9 @@ use Prim.Native.Nat.{_+_, _-_, _≤_}
 use borrow.Author.Needs.{needs}
 use borrow.Author.Tests.{not-true, not-false}
 use lib.ListN.{length, drop}
-use Rattle.lines.specs.Lines.{stretch, isInLine}
-use Rattle.lines.proofs.Stretches.{passed, stopped, ended}
+use Rattle.laws.specs.Stretch.{stretch}
+use Rattle.laws.proofs.Stretches.{passed, stopped, ended}
+use Rattle.lines.specs.Lines.{isInLine}
 use Rattle.lines.proofs.lines.line_end.Statement.{statement}
 use Rattle.lines.proofs.lines.line_end.Tie as tie
 

@@ -1,11 +1,11 @@
--- `lines::parsing::separated` meets its contract: each way out is the tests' answer. Assumes nothing.
+-- `parsing::numbers::separated` meets its contract: each way out is the tests' answer. Assumes nothing.
 use mathlib.Core.Path.{refl, sym, _∙_}
 use mathlib.Core.Bool.{true, false}
 use borrow.Author.Needs.{needs}
 use borrow.Author.Tests.{not-true, not-false, ltb-true}
-use Rattle.lines.proofs.Grammar.{separated-by}
-use Rattle.lines.proofs.parsing.separated.Statement.{statement}
-use Rattle.lines.proofs.parsing.separated.Tie as tie
+use Rattle.parsing.proofs.Grammar.{separated-by}
+use Rattle.parsing.proofs.numbers.separated.Statement.{statement}
+use Rattle.parsing.proofs.numbers.separated.Tie as tie
 
 sub-one-to-five : tie.Need-sub-one-to-five
 sub-one-to-five c = search needs

@@ -1,14 +1,14 @@
--- `lines::parsing::digits_end` meets its contract: what is left of the digits ends where the whole of them does. Assumes nothing.
+-- `parsing::numbers::digits_end` meets its contract: what is left of the digits ends where the whole of them does. Assumes nothing.
 use mathlib.Core.Path.{_≡_, sym, _∙_}
 use Prim.Native.Nat.{_+_, _-_, _≤_}
 use borrow.Author.Needs.{needs}
 use borrow.Author.Tests.{not-true, not-false}
 use lib.ListN.{length, drop}
-use Rattle.lines.specs.Lines.{stretch}
-use Rattle.lines.specs.Parsing.{isDigit}
-use Rattle.lines.proofs.Stretches.{passed, stopped, ended}
-use Rattle.lines.proofs.parsing.digits_end.Statement.{statement}
-use Rattle.lines.proofs.parsing.digits_end.Tie as tie
+use Rattle.laws.specs.Stretch.{stretch}
+use Rattle.laws.proofs.Stretches.{passed, stopped, ended}
+use Rattle.parsing.specs.Parsing.{isDigit}
+use Rattle.parsing.proofs.numbers.digits_end.Statement.{statement}
+use Rattle.parsing.proofs.numbers.digits_end.Tie as tie
 
 abbrev Inv-loop : tie.InvT-loop
 Inv-loop line at i₀ i = (i ≤ length line) × (i + stretch isDigit (drop i line) ≡ at + stretch isDigit (drop at line))

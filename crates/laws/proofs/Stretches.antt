@@ -7,7 +7,7 @@ use native.Mathlib.Numerals.{add-one}
 use native.Mathlib.Omega.{arith}
 use lib.ListN.{length, getD, drop, length-drop, drop-of-length-le}
 use lib.Seq.{drop-cons}
-use Rattle.lines.specs.Lines.{stretch}
+use Rattle.laws.specs.Stretch.{stretch}
 
 -- a test goes no further than the list
 pub stretch-within : (f : ℕ → Bool) (l : List ℕ) → stretch f l ≤ length l

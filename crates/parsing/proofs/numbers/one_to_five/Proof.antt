@@ -1,6 +1,6 @@
 use mathlib.Core.Path.{refl}
-use Rattle.lines.proofs.parsing.one_to_five.Statement.{statement}
-use Rattle.lines.proofs.parsing.one_to_five.Tie as tie
+use Rattle.parsing.proofs.numbers.one_to_five.Statement.{statement}
+use Rattle.parsing.proofs.numbers.one_to_five.Tie as tie
 
 returns : tie.Need-returns
 returns c = refl

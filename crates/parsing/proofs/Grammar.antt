@@ -10,12 +10,12 @@ use borrow.Author.Tests.{ltb-true, leb-true, eqb-true, lt-ltb, le-leb, eq-eqb}
 use lib.Dec.{ltb, leb, eqb}
 use lib.ListN.{length, getD, take, drop, length-append, length-drop, take-append-drop}
 use lib.Seq.{drop-cons, drop-drop, take-all, take-at, drop-append-add, getD-drop, getD-at, length-take-le}
+use Rattle.laws.specs.Stretch.{stretch}
 use Rattle.laws.proofs.Reflect.{and-true}
-use Rattle.lines.specs.declared.parsing.Parsed.{Parsed}
-use Rattle.lines.specs.declared.parsing.Parsed.the-variants.{Numbers, Malformed}
-use Rattle.lines.specs.Lines.{stretch}
-use Rattle.lines.specs.Parsing.{isDigit, oneToFive, decimalValue, separatedAt, digitsEnd, valueIn, parsedOf, Small, AllDigits, Number, ThreeNumbers}
-use Rattle.lines.proofs.Values.{tens-most, value-below}
+use Rattle.parsing.specs.declared.numbers.Parsed.{Parsed}
+use Rattle.parsing.specs.declared.numbers.Parsed.the-variants.{Numbers, Malformed}
+use Rattle.parsing.specs.Parsing.{isDigit, oneToFive, decimalValue, separatedAt, digitsEnd, valueIn, parsedOf, Small, AllDigits, Number, ThreeNumbers}
+use Rattle.parsing.proofs.Values.{tens-most, value-below}
 
 -- ---- the tests
 

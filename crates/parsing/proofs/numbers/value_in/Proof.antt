@@ -1,13 +1,13 @@
--- `lines::parsing::value_in` meets its contract: what is left to read gives the number, and what is read has room to grow. Assumes nothing.
+-- `parsing::numbers::value_in` meets its contract: what is left to read gives the number, and what is read has room to grow. Assumes nothing.
 use mathlib.Core.Path.{_≡_}
 use Prim.Native.Nat.{_+_, _-_, _*_, _≤_}
 use native.Mathlib.Omega.{arith}
 use borrow.Author.Needs.{needs}
 use lib.ListN.{take, drop}
-use Rattle.lines.specs.Parsing.{decimalFrom}
-use Rattle.lines.proofs.Values.{tens, tens-none, tens-most, value-next, value-ends, value-room}
-use Rattle.lines.proofs.parsing.value_in.Statement.{statement}
-use Rattle.lines.proofs.parsing.value_in.Tie as tie
+use Rattle.parsing.specs.Parsing.{decimalFrom}
+use Rattle.parsing.proofs.Values.{tens, tens-none, tens-most, value-next, value-ends, value-room}
+use Rattle.parsing.proofs.numbers.value_in.Statement.{statement}
+use Rattle.parsing.proofs.numbers.value_in.Tie as tie
 
 abbrev Inv-loop : tie.InvT-loop
 Inv-loop line from to value₀ i₀ value i = (from ≤ i) × (i ≤ to) × (value + 23 ≤ 23 * tens (i - from)) × (decimalFrom value (take (to - i) (drop i line)) ≡ decimalFrom 0 (take (to - from) (drop from line)))

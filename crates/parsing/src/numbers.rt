@@ -2,8 +2,8 @@
 ghost use mathlib.Core.Path.{_≡_};
 ghost use Prim.Native.Nat.{_+_, _-_, _≤_};
 ghost use lib.ListN.{length, take, drop};
-ghost use Rattle.lines.specs.Lines.{stretch};
-ghost use Rattle.lines.specs.Parsing.{isDigit, oneToFive, separatedAt, decimalValue, parsedOf, Small};
+ghost use Rattle.laws.specs.Stretch.{stretch};
+ghost use Rattle.parsing.specs.Parsing.{isDigit, oneToFive, separatedAt, decimalValue, parsedOf, Small};
 
 pub enum Parsed {
     Numbers(u64, u64, u64),

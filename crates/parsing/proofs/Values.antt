@@ -6,7 +6,7 @@ use native.Mathlib.Numerals.{add-one}
 use native.Mathlib.Omega.{arith}
 use lib.ListN.{length, getD, take, drop}
 use lib.Seq.{drop-cons}
-use Rattle.lines.specs.Parsing.{decimalFrom, AllDigits}
+use Rattle.parsing.specs.Parsing.{decimalFrom, AllDigits}
 
 -- ten to a power
 unfoldable pub tens : ℕ → ℕ

@@ -5,9 +5,9 @@ use mathlib.Core.List.{List, [], _∷_, _++_}
 use Prim.Native.Nat.{ℕ, _+_, _-_, _*_, _<_, _≤_}
 use lib.Dec.{eqb, ltb, leb}
 use lib.ListN.{length, getD, take, drop}
-use Rattle.lines.specs.declared.parsing.Parsed.{Parsed}
-use Rattle.lines.specs.declared.parsing.Parsed.the-variants.{Numbers, Malformed}
-use Rattle.lines.specs.Lines.{stretch}
+use Rattle.laws.specs.Stretch.{stretch}
+use Rattle.parsing.specs.declared.numbers.Parsed.{Parsed}
+use Rattle.parsing.specs.declared.numbers.Parsed.the-variants.{Numbers, Malformed}
 
 -- 0 to 9 in ASCII
 abbrev pub isDigit : ℕ → Bool

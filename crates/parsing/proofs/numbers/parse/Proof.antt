@@ -1,4 +1,4 @@
--- `lines::parsing::parse` meets its contract: each way out is the answer by the three ends. Assumes nothing.
+-- `parsing::numbers::parse` meets its contract: each way out is the answer by the three ends. Assumes nothing.
 use mathlib.Core.Path.{_≡_, sym, _∙_}
 use mathlib.Core.Bool.{true, _&&_}
 use Prim.Native.Nat.{_+_, _-_}
@@ -6,11 +6,11 @@ use native.Mathlib.Omega.{arith}
 use lib.Dec.{eqb}
 use lib.ListN.{length}
 use borrow.Author.Tests.{not-true, not-false}
-use Rattle.lines.specs.Parsing.{separatedAt, oneToFive}
-use Rattle.lines.proofs.Grammar.{Separated, separated-true, third-by, third-true, no-first, no-second, no-third, all-three}
+use Rattle.parsing.specs.Parsing.{separatedAt, oneToFive}
+use Rattle.parsing.proofs.Grammar.{Separated, separated-true, third-by, third-true, no-first, no-second, no-third, all-three}
 use borrow.Author.Needs.{needs}
-use Rattle.lines.proofs.parsing.parse.Statement.{statement}
-use Rattle.lines.proofs.parsing.parse.Tie as tie
+use Rattle.parsing.proofs.numbers.parse.Statement.{statement}
+use Rattle.parsing.proofs.numbers.parse.Tie as tie
 
 -- the tests that were passed, with what they say
 first : (c : tie.Else1) → separatedAt (c .before .before .before .before .args .line .now) 0 (c .before .before .digits-end .result) ≡ true
