@@ -18,7 +18,7 @@ use Rattle.chain.proofs.Window.{share-is, symbol-window, window-only}
 use Rattle.chain.proofs.ParserLaws.{parses}
 use Rattle.chain.proofs.InterleaverLaws.{interleaves-plan}
 use Rattle.chain.proofs.LabelLaws.{label-bit, half-below, written-from}
-use Rattle.encoder.specs.Coded.{Coded}
+use Rattle.puncturing.specs.Coded.{Coded}
 use Rattle.coding.specs.Halves.{labelIn, halfIn, HalvesFilled}
 
 -- the sizes of a call

@@ -1,8 +1,8 @@
 // The half labels of a symbol, stream by stream.
 use chain::plan::Plan;
 use chain::plan::axis_bits;
-use encoder::coded::coded_bits;
 use inputs::line::coder_inputs;
+use puncturing::coded::coded_bits;
 use sources::sources::label_sources;
 ghost use mathlib.Core.Path.{_≡_};
 ghost use Prim.Native.Nat.{_+_, _*_, _/_, _%_, _<_, _≤_};

@@ -1,26 +1,16 @@
--- The sums made by xor are the sums modulo 2, and each kept bit is the sum at its place. Assumes nothing.
-use mathlib.Core.Path.{_≡_, _∙_, refl, sym, ap}
+-- The sums made by xor are the sums modulo 2, and both calls leave sums A and B. Assumes nothing.
+use mathlib.Core.Path.{_≡_, _∙_, ap}
 use mathlib.Core.List.{List}
-use Prim.Native.Nat.{ℕ, _+_, _-_, _*_, _%_, _<_, _≤_}
-use native.Mathlib.Nat.{mul-le-mul-right}
-use native.Mathlib.Decide.{ℕ-discrete}
+use Prim.Native.Nat.{ℕ, _+_, _*_, _%_, _<_, _≤_}
 use native.Mathlib.Omega.{arith}
-use borrow.Author.Tests.{eq-eqb, ne-eqb}
-use lib.Dec.{T, lit≤}
+use lib.Dec.{lit≤}
 use lib.Bits.{bitXor}
-use lib.ListN.{getD}
-use Rattle.laws.specs.Test.{among}
 use Rattle.laws.specs.Claim.{Claim, _is_, upTo, Holds, sound}
 use Rattle.laws.specs.Filled.{Filled}
 use Rattle.laws.proofs.Filling.{fill-at}
-use Rattle.chain.specs.Plan.{keptCounts}
 use Rattle.chain.specs.Encoder.{sumA, sumB, lineTap}
-use Rattle.chain.specs.Puncture.{keptStep, lineKept}
-use Rattle.chain.proofs.Counts.{kept-low}
-use Rattle.chain.proofs.KeptLaws.{kept-form, step-below}
-use Rattle.chain.proofs.Window.{tap-at, at-below}
+use Rattle.chain.proofs.Window.{tap-at}
 use Rattle.encoder.specs.Sums.{xorA, xorB, Sums}
-use Rattle.encoder.specs.Coded.{sumPlace}
 
 -- the xor of five bits is their sum modulo 2
 abbrev fiveClaim : Claim
@@ -61,38 +51,6 @@ module _ (line : ℕ → ℕ) (e j t : ℕ) (bits : (k : ℕ) → k ≤ 6 → li
   xor-b =
       rw (back-0, back-1, back-2, back-3, back-6)
       (five _ (bits 0 (lit≤ tt)) _ (bits 1 (lit≤ tt)) _ (bits 2 (lit≤ tt)) _ (bits 3 (lit≤ tt)) _ (bits 6 (lit≤ tt)))
-
--- a place is that of the kept bit's step, and 2160 more for sum B
-pub place-is : (q e y : ℕ) → sumPlace q e y ≡ 2160 * (y % q % 2) + e * keptStep q y
-unfolding keptStep
-place-is q e y = refl
-
-module _ (line : ℕ → ℕ) (e q g : ℕ) (rate : T (among keptCounts q))
-    (bits : (i : ℕ) → i < e * ((q - 1) * g) + 6 * e → line i < 2) (j y : ℕ) (mine : j < e) (few : y < q * g) where
-  -- the input that a kept bit is the sum of, by its number, is one of the symbol's
-  pub input-few : e * keptStep q y + j < e * ((q - 1) * g)
-  input-few = omega (arith, at-below e j (keptStep q y) ((q - 1) * g) mine (step-below q y (kept-low q rate) g few))
-
-  -- the inputs that a kept bit is a sum of are bits
-  tap-bit : (k : ℕ) → k ≤ 6 → lineTap line e j (keptStep q y) k < 2
-  tap-bit k h =
-      let o : (6 - k) * e ≤ 6 * e = mul-le-mul-right e (omega arith) in
-      bits _ (omega (arith, tap-at e (keptStep q y) j k h, input-few))
-
-  -- kept bit y of encoder j is the sum j places after that of encoder 0
-  pub sum-kept : {sums₀ sums : List ℕ} → Sums line e (e * ((q - 1) * g)) sums₀ sums
-      → getD sums (sumPlace q e y + j) 0 ≡ lineKept line e q j y
-  sum-kept {sums = sums} s =
-      elim (ℕ-discrete (y % q % 2) 0) [
-        | yes h ↦
-            let p : sumPlace q e y + j ≡ e * keptStep q y + j = omega (arith, place-is q e y) in
-            ap (λ (i : ℕ). getD sums i 0) p ∙ s .a-done _ input-few ∙ xor-a line e j (keptStep q y) tap-bit
-            ∙ sym (kept-form (lineTap line e j) q y rate ∙ rw (eq-eqb (y % q % 2) 0 h))
-        | no h ↦
-            let p : sumPlace q e y + j ≡ 2160 + (e * keptStep q y + j) = omega (arith, place-is q e y) in
-            ap (λ (i : ℕ). getD sums i 0) p ∙ s .b-done _ input-few ∙ xor-b line e j (keptStep q y) tap-bit
-            ∙ sym (kept-form (lineTap line e j) q y rate ∙ rw (ne-eqb (y % q % 2) 0 h))
-      ]
 
 -- sums A and then sums B, where the second call leaves the first's
 pub both : {line : ℕ → ℕ} {e n : ℕ} {d d₁ d₂ : List ℕ} → n ≤ 2160

@@ -1,3 +1,2 @@
-// The convolutional encoders and the puncturing of one symbol. Document 01, 'From payload to points', steps 2 and 3.
-pub mod coded;
+// The sums of the convolutional encoders over one symbol's inputs. Document 01, 'From payload to points', step 2.
 pub mod sums;

@@ -51,7 +51,7 @@ fn sums_b(sums: &mut [u8], line: &[u8], encoders: usize, count: usize)
 }
 
 // Sum A of input j stands at j, sum B at 2160 + j.
-pub(crate) fn both_sums(sums: &mut [u8], line: &[u8], encoders: usize, count: usize)
+pub fn both_sums(sums: &mut [u8], line: &[u8], encoders: usize, count: usize)
     requires { ⌜ SumsAsked (now sums) (now line) encoders count ⌝ }
     ensures { λ _. ⌜ Sums (λ e. getD (now (line .entry)) e 0) encoders count (now (sums .entry)) (now (sums .exit)) ⌝ }
 {

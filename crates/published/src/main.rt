@@ -1,8 +1,8 @@
 // The published values of IEEE 802.11 that the coding chain reaches, printed one a line: the scrambler's period from seed 127, and of Annex G's
 // message (100 bytes, seed 93, 16-QAM at rate 3/4) the first 48 encoder inputs and the first 192 coded bits.
-use encoder::coded::coded_bits;
 use inputs::line::coder_inputs;
 use libc::STDOUT_FILENO;
+use puncturing::coded::coded_bits;
 use scrambler::outputs::scrambler_outputs;
 ghost use Prim.Native.Nat.{_+_, _≤_};
 ghost use lib.ListN.{length};

@@ -1,10 +1,10 @@
--- `encoder::coded::sum_place`: for each rate, the step and the parity by numerals are those of the place. Assumes nothing.
+-- `puncturing::coded::sum_place`: for each rate, the step and the parity by numerals are those of the place. Assumes nothing.
 use native.Mathlib.Omega.{arith}
 use borrow.Author.Needs.{needs, fits-under}
 use Rattle.chain.proofs.Counts.{kept-other}
-use Rattle.encoder.proofs.CodedLaws.{place-by, product-few, place-few}
-use Rattle.encoder.proofs.coded.sum_place.Statement.{statement}
-use Rattle.encoder.proofs.coded.sum_place.Tie as tie
+use Rattle.puncturing.proofs.CodedLaws.{place-by, product-few, place-few}
+use Rattle.puncturing.proofs.coded.sum_place.Statement.{statement}
+use Rattle.puncturing.proofs.coded.sum_place.Tie as tie
 
 returns : tie.Need-returns
 returns c = place-by _ 2 _ _ _ _ (c .if1 .taken) (omega arith) (omega arith)

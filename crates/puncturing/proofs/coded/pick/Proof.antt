@@ -1,4 +1,4 @@
--- `encoder::coded::pick`: the loop's store of the sum at each place fills the coded bits. Assumes nothing.
+-- `puncturing::coded::pick`: the loop's store of the sum at each place fills the coded bits. Assumes nothing.
 use mathlib.Core.Path.{refl}
 use Prim.Native.Nat.{_+_, _-_, _<_, _≤_}
 use native.Mathlib.Omega.{arith}
@@ -7,8 +7,8 @@ use denote.Ref.{now}
 use Rattle.laws.specs.Filled.{Filled}
 use Rattle.laws.proofs.Filling.{fill-none, fill-more, fill-end}
 use borrow.Author.Needs.{needs}
-use Rattle.encoder.proofs.coded.pick.Statement.{statement}
-use Rattle.encoder.proofs.coded.pick.Tie as tie
+use Rattle.puncturing.proofs.coded.pick.Statement.{statement}
+use Rattle.puncturing.proofs.coded.pick.Tie as tie
 
 abbrev Inv-loop : tie.InvT-loop
 Inv-loop coded₀ sums places to j count y₀ coded y = (y ≤ count) × Filled 0 to (λ k. getD sums (getD places k 0 + j) 0) y coded₀ coded

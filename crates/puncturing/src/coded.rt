@@ -1,10 +1,10 @@
 // Puncturing: where among the sums each kept bit stands, and the coded bits of a symbol.
-use crate::sums::both_sums;
+use encoder::sums::both_sums;
 ghost use mathlib.Core.Path.{_≡_};
 ghost use Prim.Native.Nat.{_+_, _*_};
 ghost use lib.ListN.{getD};
 ghost use Rattle.laws.specs.Filled.{Filled};
-ghost use Rattle.encoder.specs.Coded.{sumPlace, PlaceAsked, PlacesAsked, PickAsked, CodedAsked, Coded};
+ghost use Rattle.puncturing.specs.Coded.{sumPlace, PlaceAsked, PlacesAsked, PickAsked, CodedAsked, Coded};
 
 // Where the sum stands that kept bit y of encoder 0 is: each group of `kept` bits is A0 B0 A1 B2 A3 B4, as far as it goes.
 fn sum_place(kept: u16, encoders: u16, y: u16) -> u16

@@ -1,12 +1,12 @@
--- `encoder::coded::sum_places`: the loop's store of each place fills the places. Assumes nothing.
+-- `puncturing::coded::sum_places`: the loop's store of each place fills the places. Assumes nothing.
 use Prim.Native.Nat.{_-_, _≤_}
 use native.Mathlib.Omega.{arith}
 use borrow.Author.Needs.{needs}
 use Rattle.laws.specs.Filled.{Filled}
 use Rattle.laws.proofs.Filling.{fill-none, fill-more, fill-end}
-use Rattle.encoder.specs.Coded.{sumPlace}
-use Rattle.encoder.proofs.coded.sum_places.Statement.{statement}
-use Rattle.encoder.proofs.coded.sum_places.Tie as tie
+use Rattle.puncturing.specs.Coded.{sumPlace}
+use Rattle.puncturing.proofs.coded.sum_places.Statement.{statement}
+use Rattle.puncturing.proofs.coded.sum_places.Tie as tie
 
 abbrev Inv-loop : tie.InvT-loop
 Inv-loop places₀ kept encoders count y₀ places y = (y ≤ count) × Filled 0 0 (λ k. sumPlace kept encoders k) y places₀ places

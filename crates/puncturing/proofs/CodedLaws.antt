@@ -1,19 +1,26 @@
--- Where the kept bits' sums stand, and that the bits picked from there are the coded bits. Assumes nothing.
-use mathlib.Core.Path.{_≡_, _∙_}
+-- Where the kept bits' sums stand, that each kept bit is the sum at its place, and that the bits picked from there are the coded bits. Assumes nothing.
+use mathlib.Core.Path.{_≡_, _∙_, refl, sym, ap}
 use mathlib.Core.List.{List}
 use mathlib.Core.Logic.{⊎-elim}
 use Prim.Native.Nat.{ℕ, _+_, _-_, _*_, _/_, _%_, _<_, _≤_}
 use native.Mathlib.Nat.{mul-le-mul, mul-le-mul-right}
 use native.Mathlib.Decide.{ℕ-discrete}
 use native.Mathlib.Omega.{arith}
+use borrow.Author.Tests.{eq-eqb, ne-eqb}
+use lib.Dec.{T}
 use lib.ListN.{getD}
+use Rattle.laws.specs.Test.{among}
 use Rattle.laws.specs.Filled.{Filled}
 use Rattle.laws.proofs.Filling.{fill-at, fill-as}
-use Rattle.chain.specs.Puncture.{lineKept}
+use Rattle.chain.specs.Plan.{keptCounts}
+use Rattle.chain.specs.Encoder.{lineTap}
+use Rattle.chain.specs.Puncture.{keptStep, lineKept}
 use Rattle.chain.proofs.Counts.{encoders-some, encoders-most, encoders-not-two, kept-low, kept-high}
+use Rattle.chain.proofs.KeptLaws.{kept-form, step-below}
+use Rattle.chain.proofs.Window.{tap-at, at-below}
 use Rattle.encoder.specs.Sums.{Sums}
-use Rattle.encoder.specs.Coded.{sumPlace, CodedAsked, Coded}
-use Rattle.encoder.proofs.SumLaws.{place-is, input-few, sum-kept}
+use Rattle.encoder.proofs.SumLaws.{xor-a, xor-b}
+use Rattle.puncturing.specs.Coded.{sumPlace, CodedAsked, Coded}
 
 -- the place, from the parity in the group and the step
 pub place-by : (q q' e y half step : ℕ) → q ≡ q' → half ≡ y % q' % 2 → step ≡ (q' - 1) * (y / q') + (y % q' - 1)
@@ -29,6 +36,38 @@ product-few e s h l =
 -- a place fits
 pub place-few : (half e s : ℕ) → half < 2 → e ≤ 2 → s < 2592 → half * 2160 + e * s < 7344
 place-few half e s b h l = omega (arith, product-few e s h l)
+
+-- a place is that of the kept bit's step, and 2160 more for sum B
+pub place-is : (q e y : ℕ) → sumPlace q e y ≡ 2160 * (y % q % 2) + e * keptStep q y
+unfolding keptStep
+place-is q e y = refl
+
+module _ (line : ℕ → ℕ) (e q g : ℕ) (rate : T (among keptCounts q))
+    (bits : (i : ℕ) → i < e * ((q - 1) * g) + 6 * e → line i < 2) (j y : ℕ) (mine : j < e) (few : y < q * g) where
+  -- the input that a kept bit is the sum of, by its number, is one of the symbol's
+  pub input-few : e * keptStep q y + j < e * ((q - 1) * g)
+  input-few = omega (arith, at-below e j (keptStep q y) ((q - 1) * g) mine (step-below q y (kept-low q rate) g few))
+
+  -- the inputs that a kept bit is a sum of are bits
+  tap-bit : (k : ℕ) → k ≤ 6 → lineTap line e j (keptStep q y) k < 2
+  tap-bit k h =
+      let o : (6 - k) * e ≤ 6 * e = mul-le-mul-right e (omega arith) in
+      bits _ (omega (arith, tap-at e (keptStep q y) j k h, input-few))
+
+  -- kept bit y of encoder j is the sum j places after that of encoder 0
+  pub sum-kept : {sums₀ sums : List ℕ} → Sums line e (e * ((q - 1) * g)) sums₀ sums
+      → getD sums (sumPlace q e y + j) 0 ≡ lineKept line e q j y
+  sum-kept {sums = sums} s =
+      elim (ℕ-discrete (y % q % 2) 0) [
+        | yes h ↦
+            let p : sumPlace q e y + j ≡ e * keptStep q y + j = omega (arith, place-is q e y) in
+            ap (λ (i : ℕ). getD sums i 0) p ∙ s .a-done _ input-few ∙ xor-a line e j (keptStep q y) tap-bit
+            ∙ sym (kept-form (lineTap line e j) q y rate ∙ rw (eq-eqb (y % q % 2) 0 h))
+        | no h ↦
+            let p : sumPlace q e y + j ≡ 2160 + (e * keptStep q y + j) = omega (arith, place-is q e y) in
+            ap (λ (i : ℕ). getD sums i 0) p ∙ s .b-done _ input-few ∙ xor-b line e j (keptStep q y) tap-bit
+            ∙ sym (kept-form (lineTap line e j) q y rate ∙ rw (ne-eqb (y % q % 2) 0 h))
+      ]
 
 -- what holds of the sizes of a symbol that is asked for
 pub record Sizes (encoders kept groups : ℕ) : Type 0 where

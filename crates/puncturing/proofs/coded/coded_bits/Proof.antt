@@ -1,9 +1,9 @@
--- `encoder::coded::coded_bits`: the bits picked from the sums by their places are the coded bits. Assumes nothing.
+-- `puncturing::coded::coded_bits`: the bits picked from the sums by their places are the coded bits. Assumes nothing.
 use native.Mathlib.Omega.{arith}
 use borrow.Author.Needs.{needs}
-use Rattle.encoder.proofs.CodedLaws.{sizes, place-inside, picked, one-coded, two-coded}
-use Rattle.encoder.proofs.coded.coded_bits.Statement.{statement}
-use Rattle.encoder.proofs.coded.coded_bits.Tie as tie
+use Rattle.puncturing.proofs.CodedLaws.{sizes, place-inside, picked, one-coded, two-coded}
+use Rattle.puncturing.proofs.coded.coded_bits.Statement.{statement}
+use Rattle.puncturing.proofs.coded.coded_bits.Tie as tie
 
 -- the start of the call whose places are made
 abbrev start : tie.After-sum-places → tie.Start
