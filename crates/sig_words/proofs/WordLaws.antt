@@ -7,8 +7,9 @@ use native.Mathlib.Omega.{arith}
 use lib.Dec.{eqb}
 use lib.ListN.{length, set, drop}
 use borrow.Author.Tests.{eqb-true, eqb-false}
+use Rattle.sig_crc.specs.Crc.{crcRun, crcField}
 use Rattle.sig_words.specs.declared.words.SigFields.{SigFields}
-use Rattle.sig_words.specs.Words.{headWord, crcRun, crcField, sigWord, wordCrcWrong, fieldsInWord}
+use Rattle.sig_words.specs.Words.{headWord, sigWord, wordCrcWrong, fieldsInWord}
 
 pub same-fields : {x y : SigFields} → x .width ≡ y .width → x .mcs ≡ y .mcs → x .length ≡ y .length → x .smoothing ≡ y .smoothing
     → x .«not_sounding» ≡ y .«not_sounding» → x .aggregation ≡ y .aggregation → x .«short_guard» ≡ y .«short_guard» → x ≡ y

@@ -1,9 +1,10 @@
 -- HT-SIG as numbers: what the code computes. HtSigLaws of crate `signal` says that it is the field by its bits.
 use mathlib.Core.Bool.{Bool, cond, not, _||_}
 use mathlib.Core.List.{List, [], _∷_}
-use Prim.Native.Nat.{ℕ, zero, suc, _+_, _-_, _*_, _/_, _%_, _<_}
+use Prim.Native.Nat.{ℕ, _+_, _*_, _/_, _%_, _<_}
 use lib.Dec.{ltb, eqb}
 use lib.ListN.{getD}
+use Rattle.sig_crc.specs.Crc.{crcRun, crcField}
 use Rattle.sig_words.specs.declared.words.SigFields.{SigFields}
 
 -- a flag as a bit
@@ -15,23 +16,6 @@ unfoldable pub headWord : SigFields → ℕ
 headWord g =
     g .mcs + 128 * oneIf (eqb (g .width) 40) + 256 * g .length
     + 16777216 * (oneIf (g .smoothing) + 2 * oneIf (g .«not_sounding») + 4 + 8 * oneIf (g .aggregation) + 128 * oneIf (g .«short_guard»))
-
--- the register as a number, stage 0 its low bit
-abbrev pub crcShift : ℕ → ℕ → ℕ
-crcShift r b =
-    let f = (r / 128 + b) % 2 in
-    f + 2 * ((r + f) % 2) + 4 * ((r / 2 + f) % 2) + 8 * (r / 4 % 32)
-
--- k shifts, over the low bits of w
-unfoldable pub crcRun : ℕ → ℕ → ℕ → ℕ
-crcRun zero r w = r
-crcRun (suc k) r w = crcRun k (crcShift r (w % 2)) (w / 2)
-
--- the register complemented, stage 7 as the low bit
-unfoldable pub crcField : ℕ → ℕ
-crcField r =
-    (1 - r / 128 % 2) + 2 * (1 - r / 64 % 2) + 4 * (1 - r / 32 % 2) + 8 * (1 - r / 16 % 2)
-    + 16 * ((1 - r / 8 % 2) + 2 * (1 - r / 4 % 2) + 4 * (1 - r / 2 % 2) + 8 * (1 - r % 2))
 
 -- bits 0 to 47
 unfoldable pub sigWord : SigFields → ℕ

@@ -27,7 +27,8 @@ use Rattle.signal.specs.declared.ht_sig.SigRead.{SigRead}
 use Rattle.signal.specs.declared.ht_sig.SigRead.the-variants.{Fields, Refused as ReadRefused}
 use Rattle.settings.specs.Settings.{checkOf, settingsOf, Right}
 use Rattle.signal.specs.HtSig.{low, value, packed, ones, shiftedOver, crcBits, headBits, sigBits, sigBytes, fieldsOf, writtenOf, writtenInto, writtenNumber, bitsIn, field, SourceRow, CrcRow, crcWrong, FormRow, formWrong, fieldsIn, readOf, readNumber}
-use Rattle.sig_words.specs.Words.{oneIf, headWord, crcRun, crcField, sigWord, sixOf, wordIn, wordCrcWrong, wordFormWrong, fieldsInWord, SigFits}
+use Rattle.sig_crc.specs.Crc.{crcRun, crcField}
+use Rattle.sig_words.specs.Words.{oneIf, headWord, sigWord, sixOf, wordIn, wordCrcWrong, wordFormWrong, fieldsInWord, SigFits}
 use Rattle.sig_words.proofs.WordLaws.{same-fields}
 use Rattle.signal.specs.Statements.{AreBytes, ReadExactly, ReadRefusals, RoomRow, WriteRefusals}
 use Rattle.settings.proofs.SettingsLaws.{right, accepted-is}

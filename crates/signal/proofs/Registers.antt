@@ -4,7 +4,7 @@ use mathlib.Core.List.{List, [], _∷_}
 use Prim.Native.Nat.{ℕ, zero, suc, _+_, _-_, _*_, _/_, _%_, _<_}
 use native.Mathlib.Omega.{arith}
 use Rattle.signal.specs.HtSig.{low, value, Register, ones, shifted, shiftedOver, sentOut, crcBits}
-use Rattle.sig_words.specs.Words.{crcShift, crcRun, crcField}
+use Rattle.sig_crc.specs.Crc.{crcShift, crcRun, crcField}
 use Rattle.signal.proofs.Bits.{Two}
 
 -- the register as a number, stage 0 its low bit

@@ -1,10 +1,11 @@
+-- `sig_crc::crc::crc`: each turn takes one shift of the run. Assumes nothing.
 use mathlib.Core.Path.{_≡_, refl, sym, ap, _∙_}
 use Prim.Native.Nat.{ℕ, suc, _+_, _-_, _/_, _%_, _<_, _≤_}
 use native.Mathlib.Omega.{arith}
-use Rattle.sig_words.specs.Words.{crcRun, crcShift}
+use Rattle.sig_crc.specs.Crc.{crcRun, crcShift}
 use borrow.Author.Needs.{needs}
-use Rattle.sig_words.proofs.words.crc.Statement.{statement}
-use Rattle.sig_words.proofs.words.crc.Tie as tie
+use Rattle.sig_crc.proofs.crc.crc.Statement.{statement}
+use Rattle.sig_crc.proofs.crc.crc.Tie as tie
 
 -- one turn takes one shift of the run
 run-step : (k r w : ℕ) → crcRun (suc k) r w ≡ crcRun k (crcShift r (w % 2)) (w / 2)

@@ -1,10 +1,11 @@
+-- `sig_crc::crc::crc_field`: the field by its eight complemented bits. Assumes nothing.
 use mathlib.Core.Path.{_≡_}
 use Prim.Native.Nat.{ℕ, _+_, _-_, _*_, _/_, _%_}
 use native.Mathlib.Omega.{arith}
-use Rattle.sig_words.specs.Words.{crcField}
+use Rattle.sig_crc.specs.Crc.{crcField}
 use borrow.Author.Needs.{needs}
-use Rattle.sig_words.proofs.words.crc_field.Statement.{statement}
-use Rattle.sig_words.proofs.words.crc_field.Tie as tie
+use Rattle.sig_crc.proofs.crc.crc_field.Statement.{statement}
+use Rattle.sig_crc.proofs.crc.crc_field.Tie as tie
 
 off-requires : tie.Need-off-requires
 off-requires c κs = search needs

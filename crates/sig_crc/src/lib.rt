@@ -1,0 +1,2 @@
+// The CRC of HT-SIG as numbers.
+pub mod crc;
