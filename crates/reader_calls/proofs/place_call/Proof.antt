@@ -1,7 +1,7 @@
 use Rattle.reader_numbers.specs.Numbers.{PlaceRight}
 use mathlib.Core.Path.{_∙_, sym, subst}
 use denote.Ref.{now}
-use Rattle.reader_numbers.proofs.NumberLaws.{place-none, place-some, place-right}
+use Rattle.reader_calls.proofs.CallLaws.{place-none, place-some, place-right}
 use borrow.Author.Needs.{needs}
 use Rattle.reader_calls.proofs.place_call.Statement.{statement}
 use Rattle.reader_calls.proofs.place_call.Tie as tie

@@ -4,7 +4,7 @@ use native.Mathlib.Omega.{arith}
 use lib.IntN.{pos}
 use mir.Syntax.{w64}
 use mir.Facts.{toZ-pos}
-use Rattle.reader_numbers.proofs.NumberLaws.{start-small, started-as}
+use Rattle.reader_calls.proofs.CallLaws.{start-small, started-as}
 use borrow.Author.Needs.{needs}
 use Rattle.reader_calls.proofs.start_call.Statement.{statement}
 use Rattle.reader_calls.proofs.start_call.Tie as tie

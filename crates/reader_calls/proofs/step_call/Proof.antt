@@ -5,7 +5,7 @@ use denote.Ref.{now}
 use lib.IntN.{pos}
 use mir.Syntax.{w64}
 use mir.Facts.{toZ-pos}
-use Rattle.reader_numbers.proofs.NumberLaws.{step-none, step-some, step-held}
+use Rattle.reader_calls.proofs.CallLaws.{step-none, step-some, step-held}
 use borrow.Author.Needs.{needs}
 use Rattle.reader_calls.proofs.step_call.Statement.{statement}
 use Rattle.reader_calls.proofs.step_call.Tie as tie
