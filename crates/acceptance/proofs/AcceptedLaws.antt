@@ -1,15 +1,15 @@
 -- The definitions from a symbol's inputs on look at the symbol's own inputs only, and what the code computes from lists is what they say. Assumes nothing.
 use mathlib.Core.Path.{_≡_, _∙_, refl, sym, ap, ap₂}
 use mathlib.Core.Bool.{Bool, true, false, cond, _&&_}
-use mathlib.Core.List.{List, _∷_, _++_}
-use Prim.Native.Nat.{ℕ, zero, suc, _+_, _-_, _*_, _/_, _%_, _<_, _≤_}
+use mathlib.Core.List.{List, _++_}
+use Prim.Native.Nat.{ℕ, _+_, _-_, _*_, _/_, _%_, _<_, _≤_}
 use native.Mathlib.Omega.{arith}
 use borrow.Author.Tests.{eq-eqb, ne-eqb}
 use lib.Dec.{eqb, ltb}
 use lib.ListN.{length, getD, take, drop}
 use Rattle.laws.specs.Firsts.{firsts}
 use Rattle.laws.specs.Filled.{Filled}
-use Rattle.laws.proofs.Firsts.{fill-into}
+use Rattle.laws.proofs.Firsts.{firsts-ext, fill-into}
 use Rattle.laws.proofs.Filling.{fill-at}
 use Rattle.chain.specs.declared.plan.Plan.{Plan}
 use Rattle.chain.specs.Scrambler.{stateAt, seedOf, scramblerBit}
@@ -33,10 +33,6 @@ use Rattle.reader_state.specs.State.{firstBit, endedOf}
 use Rattle.acceptance.specs.Accepted.{answered, scramblerFor, plainOf, frameRight, bitsBefore, bitsAfter, knownOf, partLeft, bytesLeft, bytesInto, intoBy, movedWith, acceptedWith, byFrame}
 use Rattle.acceptance.specs.Asked.{bitsOf, InputsHeld, ScramblerAsked, framedIn, RightAsked, BytesAsked, HeardInputs}
 use Rattle.reader_state.proofs.StateLaws.{first-near, symbol-few}
-
-firsts-ext : {A : Type 0} (f g : ℕ → A) (n : ℕ) → ((k : ℕ) → k < n → f k ≡ g k) → firsts f n ≡ firsts g n
-firsts-ext f g zero e = refl
-firsts-ext f g (suc n) e = ap₂ (λ x xs. x ∷ xs) (e 0 (omega arith)) (firsts-ext (λ k. f (suc k)) (λ k. g (suc k)) n (λ k l. e (suc k) (omega arith)))
 
 module _ (s : Settings) (n part : ℕ) (P P′ : ℕ → ℕ) (same : (d : ℕ) → d < planFor s .dbps → P d ≡ P′ d) where
   known-same : (k : ℕ) → k < bitsAfter s n → knownOf s n part P k ≡ knownOf s n part P′ k

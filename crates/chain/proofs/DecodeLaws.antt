@@ -13,8 +13,9 @@ use Rattle.chain.specs.Interleaver.{place, source}
 use Rattle.chain.specs.Labels.{share, codedBit, streamBit, labelBit}
 use Rattle.chain.specs.Decoder.{historyAfter, dealt, codedIn, decodedInput, decodes, labelAfter, historyBefore}
 use Rattle.chain.proofs.Counts.{encoders-some, kept-low}
+use Rattle.chain.proofs.KeptLaws.{step-below}
 use Rattle.chain.proofs.Window.{share-is}
-use Rattle.chain.proofs.Dealing.{Gives, history-ext, coded-bit, inputs-bit, inputs-back, checks-back, checks-give}
+use Rattle.chain.proofs.Dealing.{Gives, history-ext, coded-ext, coded-bit, inputs-bit, inputs-back, checks-back, checks-give}
 use Rattle.chain.proofs.Machine.{history-small, history-after, symbol-is}
 use Rattle.chain.proofs.ParserLaws.{parses}
 use Rattle.chain.proofs.InterleaverLaws.{interleaves-plan}
@@ -79,21 +80,40 @@ module _ (p : Plan) (fits : Fits p) where
       from i (place (p .width) (p .bits) i k) li (interleaves-plan p fits i li .place-lt k lk)
       ∙ rw (interleaves-plan p fits i li .source-place k lk, parses p fits .encoder-back j y h, parses p fits .index-back j y h)
 
+  -- a label place's bit is one of the symbol's kept bits
+  index-below : (i r : ℕ) → i < p .streams → r < p .block
+      → indexOf (axisBits (p .bits)) (p .streams) (p .encoders) i (source (p .width) (p .bits) i r) < p .kept * groupsOf p
+  index-below i r h l = rw (share-is p fits) at (parses p fits .index-lt i _ h (interleaves-plan p fits i h .source-lt r l))
+
   give-labels : (hs X : ℕ → ℕ) (lab : ℕ → ℕ → ℕ) → Gives hs X (codedIn p lab) (p .encoders) (p .kept) (groupsOf p)
       → (i r : ℕ) → i < p .streams → r < p .block → lab i r ≡ labelAfter p hs X i r
   unfolding codedIn labelAfter
   give-labels hs X lab gives i r h l =
       let s : ℕ = axisBits (p .bits) in
       let k : ℕ = source (p .width) (p .bits) i r in
-      let lk : k < p .block = interleaves-plan p fits i h .source-lt r l in
       let y : ℕ = indexOf s (p .streams) (p .encoders) i k in
-      let ly : y < p .kept * groupsOf p = rw (share-is p fits) at (parses p fits .index-lt i k h lk) in
-      let g = gives (encoderOf s (p .encoders) k) y (parses p fits .encoder-lt k) ly in
+      let g = gives (encoderOf s (p .encoders) k) y (parses p fits .encoder-lt k) (index-below i r h l) in
       rw (parses p fits .stream-back i k h, parses p fits .bit-back i k h, interleaves-plan p fits i h .place-source r l) at g
 
-  after-same : (hs hs' X : ℕ → ℕ) → ((j : ℕ) → j < p .encoders → hs j ≡ hs' j) → (i r : ℕ) → labelAfter p hs X i r ≡ labelAfter p hs' X i r
+  -- the machine's label bits depend on the encoders' histories
+  pub after-same : (hs hs' X : ℕ → ℕ) → ((j : ℕ) → j < p .encoders → hs j ≡ hs' j) → (i r : ℕ) → labelAfter p hs X i r ≡ labelAfter p hs' X i r
   unfolding labelAfter
   after-same hs hs' X same i r = rw (same _ (parses p fits .encoder-lt (source (p .width) (p .bits) i r)))
+
+  -- and on the symbol's own inputs only
+  pub after-local : (hs X Y : ℕ → ℕ) → ((d : ℕ) → d < p .dbps → X d ≡ Y d)
+      → (i r : ℕ) → i < p .streams → r < p .block → labelAfter p hs X i r ≡ labelAfter p hs Y i r
+  unfolding labelAfter
+  after-local hs X Y same i r h l =
+      let s : ℕ = axisBits (p .bits) in
+      let k : ℕ = source (p .width) (p .bits) i r in
+      let j : ℕ = encoderOf s (p .encoders) k in
+      let y : ℕ = indexOf s (p .streams) (p .encoders) i k in
+      let below : y < p .kept * groupsOf p = index-below i r h l in
+      coded-ext (hs j) (dealt X (p .encoders) j) (dealt Y (p .encoders) j) (p .kept) y (λ t b.
+      let turn : t < (p .kept - 1) * groupsOf p = omega (arith, step-below (p .kept) y (kept-low (p .kept) (fits .kept)) (groupsOf p) below) in
+      same (p .encoders * t + j)
+      (rw (fits .dbps-groups) (omega (arith, parses p fits .encoder-lt k, rw mul-suc at (mul-le-mul-left (p .encoders) turn)))))
 
   -- lab are label bits that the machine gives for inputs X after histories hs
   module _ (hs X : ℕ → ℕ) (lab : ℕ → ℕ → ℕ) (bits : (d : ℕ) → d < p .dbps → X d < 2)

@@ -86,6 +86,11 @@ pub seed-back : (s : ℕ) → s < 128 → seedOf (λ d. scramblerBit s d) ≡ s
 unfolding stateAt seedOf
 seed-back = sound backClaim tt
 
+-- any seven bits give a state
+pub seed-small : (o : ℕ → ℕ) → ((k : ℕ) → o k < 2) → seedOf o < 128
+unfolding seedOf
+seed-small o bits = state-small _ 120 (omega (arith, bits 0, bits 1, bits 2, bits 3, bits 4, bits 5, bits 6))
+
 -- only seven outputs count
 pub seed-ext : (x y : ℕ → ℕ) → ((k : ℕ) → k < 7 → x k ≡ y k) → seedOf x ≡ seedOf y
 unfolding seedOf

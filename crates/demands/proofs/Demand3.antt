@@ -40,8 +40,9 @@ use Rattle.frame.specs.declared.points.PointsAnswer.{PointsAnswer}
 use Rattle.query.specs.declared.query.QueryAnswer.{QueryAnswer}
 use Rattle.query.specs.declared.query.QueryAnswer.the-variants.{Carries, Refused as QueryRefused}
 use Rattle.frame.specs.Points.{inputOf, labelsOf, pointFloat, floatsOf, pointsOf, pointsInto, pointsNumber}
+use Rattle.frame.specs.Compared.{SameBits, SameLevel}
 use Rattle.query.specs.Query.{carriedBy, carriedOf, notInFrame, queryOf, queryNumber}
-use Rattle.demands.specs.Frames.{WholePayload, SameBits, SameLevel, DifferentSymbol, DifferentPoints, AgreeWhereLooked, FirstDiffering}
+use Rattle.demands.specs.Frames.{WholePayload, DifferentSymbol, DifferentPoints, AgreeWhereLooked, FirstDiffering}
 use Rattle.demands.specs.Demand3.{Counts, Signals, SameSignal, SamePilots, SamePoints, SameKind, SameQuery, LocalPoints, LocalQuery, DifferingPoints, PayloadsShown, EqualButSeed, SeedPoints, SeedsShown, AtPoints, OfPoints, AtQueries, OfQueries, Demand3a, Demand3b, Demand3c, Demand3d}
 use Rattle.demands.proofs.FrameBits.{FirstBit, first-bit, frame-bit, frame-local, agree-at, input-apart, first-output, service-apart}
 use Rattle.demands.proofs.Calls.{length-is, Given, given, same-answer, level-at, Asked, answered, carried-data, carried-same}

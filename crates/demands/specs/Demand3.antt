@@ -24,8 +24,9 @@ use Rattle.query.specs.declared.query.QueryAnswer.the-variants.{Carries, Refuse
 use Rattle.query.specs.declared.query.Carried.the-variants.{Silent, Pilot as PilotSign, Data}
 use Rattle.mapper.specs.declared.point.Point.{Point}
 use Rattle.frame.specs.Points.{floatsOf, pointsOf, pointsInto, pointsNumber}
+use Rattle.frame.specs.Compared.{SameLevel, SameSymbol}
 use Rattle.query.specs.Query.{queryOf, queryNumber}
-use Rattle.demands.specs.Frames.{WholePayload, SameLevel, SameSymbol, DifferentSymbol, DifferentPoints, AgreeWhereLooked, PayloadsDiffer, FirstDiffering}
+use Rattle.demands.specs.Frames.{WholePayload, DifferentSymbol, DifferentPoints, AgreeWhereLooked, PayloadsDiffer, FirstDiffering}
 
 -- The two calls of one kind: for raw settings a and a′ and payload slices p and q, answers r and r′, and lent slices that were out and out′ and are l and l′.
 

@@ -3,32 +3,22 @@ use mathlib.Core.Path.{_≡_}
 use mathlib.Core.List.{List}
 use Prim.Native.Nat.{ℕ, _+_, _-_, _*_, _<_, _≤_}
 use lib.ListN.{length, getD}
-use lib.Ieee.{Float, binary32, nan, toBits}
+use lib.Ieee.{Float}
+use Rattle.laws.specs.Bytes.{AreBytes}
 use Rattle.chain.specs.DataBits.{payloadBit}
 use Rattle.mapper.specs.declared.point.Point.{Point}
 use Rattle.settings.specs.declared.settings.Settings.{Settings}
 use Rattle.settings.specs.declared.settings.RawSettings.{RawSettings}
 use Rattle.settings.specs.Settings.{planFor}
-use Rattle.signal.specs.Statements.{AreBytes}
 use Rattle.query.specs.declared.query.Carried.the-variants.{Data}
 use Rattle.query.specs.declared.query.QueryAnswer.{QueryAnswer}
 use Rattle.query.specs.declared.query.QueryAnswer.the-variants.{Carries}
 use Rattle.frame.specs.Points.{floatsOf}
+use Rattle.frame.specs.Compared.{SameBits, SameLevel}
 
 -- "Its payload is the slice's first length bytes, whole when the slice has that many"
 abbrev pub WholePayload : RawSettings → List ℕ → Type 0
 WholePayload a p = (a .length ≤ length p) × AreBytes p
-
--- "equal when all their levels are, by their bits"
-abbrev pub SameBits : Float → Float → Type 0
-SameBits x y = toBits binary32 x ≡ toBits binary32 y
-
-abbrev pub SameLevel : (l l′ : List Float) (g : ℕ) → Type 0
-SameLevel l l′ g = SameBits (getD l g nan) (getD l′ g nan)
-
--- two slices hold the same symbol
-abbrev pub SameSymbol : Settings → (l l′ : List Float) → Type 0
-SameSymbol s l l′ = (g : ℕ) → g < floatsOf s → SameLevel l l′ g
 
 -- "else they differ": a level that does
 abbrev pub DifferentSymbol : Settings → (l l′ : List Float) → Type 0

@@ -1,3 +1,4 @@
 pub mod Points
+pub mod Compared
 pub mod Asked
 pub mod Statements

@@ -1,6 +1,6 @@
 -- Lists by an index function, and a filled list as one of them. Assumes nothing.
-use mathlib.Core.Path.{_≡_, _∙_, refl, sym, ap}
-use mathlib.Core.List.{List, _++_}
+use mathlib.Core.Path.{_≡_, _∙_, refl, sym, ap, ap₂}
+use mathlib.Core.List.{List, _∷_, _++_}
 use mathlib.Core.Logic.{⊎-elim}
 use Prim.Native.Nat.{ℕ, zero, suc, _+_, _-_, _<_, _≤_}
 use native.Mathlib.Nat.{le-of-suc-le-suc, not-suc-le-zero}
@@ -20,6 +20,11 @@ pub getD-firsts : {A : Type 0} (z : A) (f : ℕ → A) (n i : ℕ) → i < n →
 getD-firsts z f zero i h = absurd (not-suc-le-zero h)
 getD-firsts z f (suc n) zero h = refl
 getD-firsts z f (suc n) (suc i) h = getD-firsts z (λ k. f (suc k)) n i (le-of-suc-le-suc h)
+
+-- only the values so far count
+pub firsts-ext : {A : Type 0} (f g : ℕ → A) (n : ℕ) → ((k : ℕ) → k < n → f k ≡ g k) → firsts f n ≡ firsts g n
+firsts-ext f g zero e = refl
+firsts-ext f g (suc n) e = ap₂ (λ x xs. x ∷ xs) (e 0 (omega arith)) (firsts-ext (λ k. f (suc k)) (λ k. g (suc k)) n (λ k l. e (suc k) (omega arith)))
 
 module _ {A : Type 0} (z : A) (f : ℕ → A) (n : ℕ) (d₀ : List A) where
   -- a list whose first elements are written: those, and the rest
@@ -46,37 +51,52 @@ module _ {A : Type 0} (z : A) (f : ℕ → A) (n : ℕ) (d₀ : List A) where
       (λ (b : n ≤ i). p .after i (omega arith) ∙ sym (rest-at i b))
       (lt-or-le i n))
 
--- a list filled from any place on: what stood before, the function's values, and what stood after
-pub fill-into : {A : Type 0} (z : A) (a : ℕ) (f : ℕ → A) (n : ℕ) (d₀ d : List A) → a + n ≤ length d₀ → Filled z a f n d₀ d
-    → d ≡ take a d₀ ++ (firsts f n ++ drop (a + n) d₀)
-fill-into {A} z a f n d₀ d h p =
-    ext-getD z d (take a d₀ ++ rest)
-    (omega (arith, p .same, length-append (take a d₀) rest, length-append (firsts f n) (drop (a + n) d₀), front, length-firsts f n, length-drop (a + n) d₀))
+-- a part of a list written: what stood before it, the function's values, and what stood after it
+module _ {A : Type 0} (z : A) (a : ℕ) (f : ℕ → A) (n : ℕ) (d₀ : List A) (inside : a + n ≤ length d₀) where
+  abbrev rest : List A
+  rest = firsts f n ++ drop (a + n) d₀
+
+  front : length (take a d₀) ≡ a
+  front = length-take-le a d₀ (omega arith)
+
+  behind : (i : ℕ) → a ≤ i → getD (take a d₀ ++ rest) i z ≡ getD rest (i - a) z
+  behind i low =
+      let e : length (take a d₀) + (i - a) ≡ i = omega (arith, front) in
+      ap (λ (k : ℕ). getD (take a d₀ ++ rest) k z) (sym e) ∙ getD-append-add (take a d₀) rest (i - a) z
+
+  pub into-fill : Filled z a f n d₀ (take a d₀ ++ (firsts f n ++ drop (a + n) d₀))
+  into-fill = record {
+    same = omega (arith, length-append (take a d₀) rest, length-append (firsts f n) (drop (a + n) d₀), front, length-firsts f n, length-drop (a + n) d₀);
+    done = λ i l.
+        let e : a + i - a ≡ i = omega arith in
+        behind (a + i) (omega arith)
+        ∙ ap (λ (k : ℕ). getD rest k z) e
+        ∙ List·getD-append (firsts f n) (drop (a + n) d₀) z i (rw (length-firsts f n) l)
+        ∙ getD-firsts z f n i l;
+    before = λ i l. List·getD-append (take a d₀) rest z i (rw front l) ∙ getD-take a d₀ i z l;
+    after = λ i l.
+        let e : length (firsts f n) + (i - a - n) ≡ i - a = omega (arith, length-firsts f n) in
+        let g : a + n + (i - a - n) ≡ i = omega arith in
+        behind i (omega arith)
+        ∙ ap (λ (k : ℕ). getD rest k z) (sym e)
+        ∙ getD-append-add (firsts f n) (drop (a + n) d₀) (i - a - n) z
+        ∙ getD-drop (a + n) d₀ (i - a - n) z
+        ∙ ap (λ (k : ℕ). getD d₀ k z) g;
+  }
+
+-- there is one list only that is so filled
+pub fill-only : {A : Type 0} (z : A) (a : ℕ) (f : ℕ → A) (n : ℕ) (d₀ d d′ : List A) → Filled z a f n d₀ d → Filled z a f n d₀ d′ → d ≡ d′
+fill-only z a f n d₀ d d′ p q =
+    ext-getD z d d′ (p .same ∙ sym (q .same))
     (λ i l. parts a (a + n) i
-    (λ (b : i < a). p .before i b ∙ sym (getD-take a d₀ i z b) ∙ sym (List·getD-append (take a d₀) rest z i (rw front b)))
+    (λ (b : i < a). p .before i b ∙ sym (q .before i b))
     (λ (low : a ≤ i) (high : i < a + n).
     let e : a + (i - a) ≡ i = omega arith in
     ap (λ (k : ℕ). getD d k z) (sym e) ∙ p .done (i - a) (omega arith)
-    ∙ sym (getD-firsts z f n (i - a) (omega arith))
-    ∙ sym (List·getD-append (firsts f n) (drop (a + n) d₀) z (i - a) (rw (length-firsts f n) (omega arith)))
-    ∙ sym (behind i low))
-    (λ (low : a + n ≤ i).
-    let e : length (firsts f n) + (i - a - n) ≡ i - a = omega (arith, length-firsts f n) in
-    let g : a + n + (i - a - n) ≡ i = omega arith in
-    p .after i low
-    ∙ ap (λ (k : ℕ). getD d₀ k z) (sym g)
-    ∙ sym (getD-drop (a + n) d₀ (i - a - n) z)
-    ∙ sym (getD-append-add (firsts f n) (drop (a + n) d₀) (i - a - n) z)
-    ∙ ap (λ (k : ℕ). getD rest k z) e
-    ∙ sym (behind i (omega arith))))
-  where
-    rest : List A
-    rest = firsts f n ++ drop (a + n) d₀
+    ∙ sym (q .done (i - a) (omega arith)) ∙ ap (λ (k : ℕ). getD d′ k z) e)
+    (λ (low : a + n ≤ i). p .after i low ∙ sym (q .after i low)))
 
-    front : length (take a d₀) ≡ a
-    front = length-take-le a d₀ (omega arith)
-
-    behind : (i : ℕ) → a ≤ i → getD (take a d₀ ++ rest) i z ≡ getD rest (i - a) z
-    behind i low =
-        let e : length (take a d₀) + (i - a) ≡ i = omega (arith, front) in
-        ap (λ (k : ℕ). getD (take a d₀ ++ rest) k z) (sym e) ∙ getD-append-add (take a d₀) rest (i - a) z
+-- so a list filled from any place on is what stood before, the function's values, and what stood after
+pub fill-into : {A : Type 0} (z : A) (a : ℕ) (f : ℕ → A) (n : ℕ) (d₀ d : List A) → a + n ≤ length d₀ → Filled z a f n d₀ d
+    → d ≡ take a d₀ ++ (firsts f n ++ drop (a + n) d₀)
+fill-into z a f n d₀ d h p = fill-only z a f n d₀ d _ p (into-fill z a f n d₀ h)

@@ -7,3 +7,4 @@ pub mod Scattered
 pub mod Refusals
 pub mod Integers
 pub mod Stretch
+pub mod Bytes

@@ -9,7 +9,7 @@ use lib.Arith.{mod-mul}
 use lib.Pow.{pow-pos}
 use Rattle.signal.specs.HtSig.{low, value, packed, bitsIn, field}
 use Rattle.sig_words.specs.Words.{sixOf, wordIn}
-use Rattle.signal.specs.Statements.{AreBytes}
+use Rattle.laws.specs.Bytes.{AreBytes}
 
 -- ---- bits
 

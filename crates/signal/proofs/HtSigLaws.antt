@@ -30,7 +30,8 @@ use Rattle.signal.specs.HtSig.{low, value, packed, ones, shiftedOver, cr
 use Rattle.sig_crc.specs.Crc.{crcRun, crcField}
 use Rattle.sig_words.specs.Words.{oneIf, headWord, sigWord, sixOf, wordIn, wordCrcWrong, wordFormWrong, fieldsInWord, SigFits}
 use Rattle.sig_words.proofs.WordLaws.{same-fields}
-use Rattle.signal.specs.Statements.{AreBytes, ReadExactly, ReadRefusals, RoomRow, WriteRefusals}
+use Rattle.laws.specs.Bytes.{AreBytes}
+use Rattle.signal.specs.Statements.{ReadExactly, ReadRefusals, RoomRow, WriteRefusals}
 use Rattle.settings.proofs.SettingsLaws.{right, accepted-is}
 use Rattle.settings.proofs.Refusals.{settingsRules, after-settings}
 use Rattle.signal.proofs.Bits.{Two, two-low, two-append, value-append, value-low, same-bits, low-of, low-mod, field-of, drop-low, take-low, packed-low, six-bits, bits-in, six-joined, six-small, six-are-bytes, word-again}

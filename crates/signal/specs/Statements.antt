@@ -3,7 +3,8 @@ use mathlib.Core.Path.{_≡_}
 use mathlib.Core.Logic.{_↔_}
 use mathlib.Core.List.{List}
 use Prim.Native.Nat.{ℕ, _<_}
-use lib.ListN.{length, getD}
+use lib.ListN.{length}
+use Rattle.laws.specs.Bytes.{AreBytes}
 use Rattle.settings.specs.declared.settings.RawSettings.{RawSettings}
 use Rattle.settings.specs.declared.settings.Settings.{Settings}
 use Rattle.settings.specs.declared.settings.Checked.the-variants.{Accepted}
@@ -12,10 +13,6 @@ use Rattle.signal.specs.declared.ht_sig.SigRead.the-variants.{Fields}
 use Rattle.settings.specs.Settings.{checkOf}
 use Rattle.settings.specs.Statements.{NoSettingsRow, SettingsRows}
 use Rattle.signal.specs.HtSig.{fieldsOf, sigBytes, writtenOf, writtenNumber, readOf, readNumber, SourceRow, CrcRow, FormRow}
-
--- each number of a list is a byte
-abbrev pub AreBytes : List ℕ → Type 0
-AreBytes l = (i : ℕ) → i < length l → getD l i 0 < 256
 
 -- the read gives fields exactly for the bytes that some accepted settings write, and they are those settings' fields
 abbrev pub ReadExactly : Type 0

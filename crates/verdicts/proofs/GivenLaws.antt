@@ -42,7 +42,7 @@ use Rattle.detector.proofs.SearchLaws.{carrier-place-in, carrier-place-use, poi
 
 -- ---- a point of the constellation
 -- the levels of two labels of s bits; the second is 0 where there is one level only
-abbrev pairOf : (s : ℕ) (single : Bool) (a b : ℕ) → Levels
+abbrev pub pairOf : (s : ℕ) (single : Bool) (a b : ℕ) → Levels
 pairOf s single a b = cond single (levels (levelOf s a) (pos 0)) (levels (levelOf s a) (levelOf s b))
 
 -- `dataGiven` by whether there is one level only
@@ -115,7 +115,7 @@ module _ (s : ℕ) (known : T (among (1 ∷ 2 ∷ 3 ∷ []) s)) (x y : Float) wh
   zero-given v e = ap (λ (b : Bool). ltb (cond b 0 1) 1) (eq-eqb (toBits binary32 v) (toBits binary32 (whole (pos 0))) e)
 
   -- the labels that the point of two labels shows are those, and the point is given
-  record Back (single t : Bool) (a b : ℕ) : Type 0 where
+  pub record Back (single t : Bool) (a b : ℕ) : Type 0 where
     given : givenBy s single t x y ≡ true
     first : levelLabel s (cond t y x) ≡ a
     second : single ≡ false → cond t (negatedLabel s x) (levelLabel s y) ≡ b
@@ -141,10 +141,10 @@ module _ (s : ℕ) (known : T (among (1 ∷ 2 ∷ 3 ∷ []) s)) (x y : Float) wh
 
 -- ---- a data carrier's point
 -- the half labels that the point of data carrier c comes from, in the order of its levels
-abbrev firstHalf : (single : Bool) (h : ℕ → ℕ) (c : ℕ) → ℕ
+abbrev pub firstHalf : (single : Bool) (h : ℕ → ℕ) (c : ℕ) → ℕ
 firstHalf single h c = cond single (h c) (h (2 * c))
 
-abbrev secondHalf : (single : Bool) (h : ℕ → ℕ) (c : ℕ) → ℕ
+abbrev pub secondHalf : (single : Bool) (h : ℕ → ℕ) (c : ℕ) → ℕ
 secondHalf single h c = cond single 0 (h (2 * c + 1))
 
 carrier-pair : (bits : ℕ) → T (among bitCounts bits) → (h : ℕ → ℕ) (c : ℕ)
@@ -201,7 +201,7 @@ module _ (p : Plan) (fits : Fits p) (format n i : ℕ) (z : ℤ) (x y : Float) w
   single = eqb (p .bits) 1
 
   -- what half labels send on the subcarrier of a data carrier
-  sent-pair : (h : ℕ → ℕ → ℕ) (c : ℕ) → useOf (p .width) z ≡ Data c
+  pub sent-pair : (h : ℕ → ℕ → ℕ) (c : ℕ) → useOf (p .width) z ≡ Data c
       → sentLevels p h format n i z ≡ turnedIf turn (pairOf (axisBits (p .bits)) single (firstHalf single (h i) c) (secondHalf single (h i) c))
   sent-pair h c e = sent-used p fits h format n i z (Data c) e ∙ ap (turnedIf turn) (carrier-pair (p .bits) (fits .bits) (h i) c)
 
@@ -233,13 +233,13 @@ module _ (p : Plan) (fits : Fits p) (format n i : ℕ) (z : ℤ) (x y : Float) w
         second = second-as y sent (shows .second);
       }
 
-  half-in : (h : ℕ → ℕ) → ((m : ℕ) → h m < 2 ^ axisBits (p .bits)) → (t : Bool) (c : ℕ)
+  pub half-in : (h : ℕ → ℕ) → ((m : ℕ) → h m < 2 ^ axisBits (p .bits)) → (t : Bool) (c : ℕ)
       → (firstHalf t h c < 2 ^ axisBits (p .bits)) × (secondHalf t h c < 2 ^ axisBits (p .bits))
   half-in h label true c = (label c, pow-some (axisBits (p .bits)) axis)
   half-in h label false c = (label (2 * c), label (2 * c + 1))
 
   -- what a data carrier's floats show, where they are of half labels
-  data-back : (h : ℕ → ℕ → ℕ) (c : ℕ) → useOf (p .width) z ≡ Data c
+  pub data-back : (h : ℕ → ℕ → ℕ) (c : ℕ) → useOf (p .width) z ≡ Data c
       → (firstHalf single (h i) c < 2 ^ axisBits (p .bits)) × (secondHalf single (h i) c < 2 ^ axisBits (p .bits))
       → toBits binary32 x ≡ toBits binary32 (whole (sentLevels p h format n i z .first))
       → toBits binary32 y ≡ toBits binary32 (whole (sentLevels p h format n i z .second))
@@ -287,7 +287,7 @@ not-back : (b t : Bool) → not b ≡ t → b ≡ not t
 not-back true t e = ap not e
 not-back false t e = ap not e
 
-places-some : (b : Bool) → 0 < cond b 114 56
+pub places-some : (b : Bool) → 0 < cond b 114 56
 places-some true = omega arith
 places-some false = omega arith
 
@@ -410,7 +410,7 @@ module _ (bits : ℕ) (known : T (among bitCounts bits)) (t : Bool) (x y : Float
   second-as-read : eqb bits 1 ≡ false → secondLabel bits t x y ≡ cond t (negatedLabel (axisBits bits) x) (levelLabel (axisBits bits) y)
   second-as-read e = simp e
 
-  pointed : Back (axisBits bits) (axis-known bits known) x y (eqb bits 1) t (firstHalf (eqb bits 1) h carrier) (secondHalf (eqb bits 1) h carrier)
+  pub pointed : Back (axisBits bits) (axis-known bits known) x y (eqb bits 1) t (firstHalf (eqb bits 1) h carrier) (secondHalf (eqb bits 1) h carrier)
       → pointBit bits t x y (r % bits) ≡ wanted
   pointed back = go (eqb bits 1) refl (back .first) (back .second)
     where

@@ -1,2 +1,3 @@
 pub mod GivenLaws
 pub mod Refusals
+pub mod ShownLaws

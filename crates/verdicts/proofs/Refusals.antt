@@ -109,7 +109,7 @@ module _ (s : Settings) (st : Reader) (X : ℕ → ℕ) where
 
 -- ---- the rows of a state in range, each with its test
 
-abbrev isAt : Search → Bool
+abbrev pub isAt : Search → Bool
 isAt AllGiven = false
 isAt (At i f) = true
 
@@ -133,7 +133,7 @@ module _ (s : Settings) (st : Reader) (points : List Float) where
   abbrev pub moved : Reader
   moved = movedWith s st (historiesAfter s st heard) (scramblerFor st heard) (partLeft s (st .symbol) (st .part) (plainOf st heard))
 
-  search-number : (x : Search) → stepNumber (bySearch x s st points .answer)
+  pub search-number : (x : Search) → stepNumber (bySearch x s st points .answer)
       ≡ cond (isAt x) 9 (cond (not decoded) 10 (cond (not (frameRight s st heard)) 11 0))
   search-number (At i f) = refl
   search-number AllGiven = code-number decoded (frameRight s st heard) (eqb (st .symbol) 0) (scramblerFor st heard) moved (endedOf st)

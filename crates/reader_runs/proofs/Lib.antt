@@ -1,0 +1,9 @@
+pub mod Parts
+pub mod Hear
+pub mod Finding
+pub mod Steps
+pub mod Runs
+pub mod Memory
+pub mod Payloads
+pub mod Endings
+pub mod Unique
