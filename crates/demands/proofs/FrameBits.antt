@@ -8,7 +8,7 @@ use native.Mathlib.Omega.{arith}
 use borrow.Author.Tests.{eqb-true, eqb-false}
 use lib.Dec.{eqb}
 use lib.ListN.{length, getD}
-use Rattle.laws.specs.Claim.{Claim, _is_, upTo, Holds, sound}
+use Rattle.laws.specs.Claim.{_is_}
 use Rattle.laws.proofs.Search.{AllBelow, FirstFailing, search-below}
 use Rattle.chain.specs.DataBits.{payloadBit, payloadEnd}
 use Rattle.chain.specs.Scrambler.{scramblerBit}
@@ -18,33 +18,14 @@ use Rattle.chain.proofs.ScramblerLaws.{scrambler-bit, seed-told}
 use Rattle.settings.specs.declared.settings.Settings.{Settings}
 use Rattle.settings.specs.Settings.{planFor}
 use Rattle.frame.specs.Points.{inputOf}
+use Rattle.assembler.proofs.Packing.{packed-ext}
+use Rattle.reader_runs.proofs.Payloads.{byte-bits, bit-of}
 use Rattle.demands.specs.Frames.{AgreeWhereLooked}
-
--- a byte is the number that its bits write
-abbrev sumOf : (f : ℕ → ℕ) → ℕ
-sumOf f = f 0 + 2 * f 1 + 4 * f 2 + 8 * f 3 + 16 * f 4 + 32 * f 5 + 64 * f 6 + 128 * f 7
-
-abbrev byteClaim : Claim
-byteClaim = upTo 256 λ a. a is sumOf (λ b. a / 2 ^ b % 2)
-
-bytes-are : Holds byteClaim
-bytes-are = sound byteClaim tt
-
-same-sum : (f g : ℕ → ℕ) → ((b : ℕ) → b < 8 → f b ≡ g b) → sumOf f ≡ sumOf g
-same-sum f g e =
-    rw (e 0 (omega arith), e 1 (omega arith), e 2 (omega arith), e 3 (omega arith), e 4 (omega arith), e 5 (omega arith), e 6 (omega arith), e 7 (omega arith))
 
 -- bytes with the same bits are equal
 pub byte-told : (a c : ℕ) → a < 256 → c < 256 → ((b : ℕ) → b < 8 → a / 2 ^ b % 2 ≡ c / 2 ^ b % 2) → a ≡ c
 byte-told a c h k same =
-    bytes-are a h ∙ same-sum (λ b. a / 2 ^ b % 2) (λ b. c / 2 ^ b % 2) same ∙ sym (bytes-are c k)
-
--- bit b of byte j
-pub bit-of : (p : List ℕ) (j b : ℕ) → b < 8 → payloadBit p (8 * j + b) ≡ getD p j 0 / 2 ^ b % 2
-bit-of p j b h =
-    let e : (8 * j + b) / 8 ≡ j = omega arith in
-    let r : (8 * j + b) % 8 ≡ b = omega arith in
-    rw (e, r)
+    sym (byte-bits a h) ∙ packed-ext (λ b. a / 2 ^ b % 2) (λ b. c / 2 ^ b % 2) 0 8 (λ b l. same (0 + b) (omega (arith, l))) ∙ byte-bits c k
 
 -- payloads that agree on a byte agree on its bits
 pub bit-same : (p q : List ℕ) (k : ℕ) → getD p (k / 8) 0 ≡ getD q (k / 8) 0 → payloadBit p k ≡ payloadBit q k

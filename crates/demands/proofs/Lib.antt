@@ -1,4 +1,6 @@
 pub mod FrameBits
 pub mod Calls
+pub mod Reading
+pub mod Demand2
 pub mod Demand3
 pub mod Worked

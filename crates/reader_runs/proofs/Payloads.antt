@@ -67,7 +67,7 @@ sent-payload s right o S m f n l =
     n l (S n) (f .sent n l)
 
 -- symbols of a payload, as a frame of its bits
-pub payload-sent : (s : Settings) (S : ℕ → List Float) (m seed : ℕ) (p : List ℕ) → 1 ≤ seed → seed ≤ 127
+abbrev pub payload-sent : (s : Settings) (S : ℕ → List Float) (m seed : ℕ) (p : List ℕ) → 1 ≤ seed → seed ≤ 127
     → ((n : ℕ) → n < m → FloatsSent s (payloadBit p) seed n (S n)) → SentBy s S m
 payload-sent s S m seed p some most sent =
     record { v = payloadBit p; seed = seed; bits = payload-bit p; seed-some = some; seed-small = omega (arith, most); sent = sent }

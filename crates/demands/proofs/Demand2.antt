@@ -1,0 +1,323 @@
+-- Demand 2 of the reader: a term for each sentence of specs/Demand2. Assumes nothing.
+use mathlib.Core.Path.{_≡_, _∙_, refl, sym, ap, subst}
+use mathlib.Core.Bool.{Bool, true, false, cond}
+use mathlib.Core.List.{List, _++_}
+use Prim.Native.Nat.{ℕ, _+_, _-_, _*_, _/_, _<_, _≤_}
+use native.Mathlib.Numerals.{add-one}
+use native.Mathlib.Omega.{arith}
+use borrow.Author.Tests.{eq-eqb}
+use lib.Dec.{eqb}
+use lib.ListN.{length, getD, take, drop}
+use lib.Seq.{ext-getD, getD-take, length-take-le}
+use lib.Ieee.{Float, binary32, toBits}
+use Rattle.laws.specs.Bytes.{AreBytes}
+use Rattle.laws.specs.Firsts.{firsts}
+use Rattle.laws.proofs.Filling.{fill-end}
+use Rattle.laws.proofs.Firsts.{length-firsts, getD-firsts, fill-list}
+use Rattle.laws.proofs.Search.{parts}
+use Rattle.chain.specs.DataBits.{payloadBit}
+use Rattle.chain.proofs.InputLaws.{payload-bit}
+use Rattle.settings.specs.declared.settings.RawSettings.{RawSettings}
+use Rattle.settings.specs.declared.settings.Settings.{Settings}
+use Rattle.settings.specs.declared.settings.Checked.the-variants.{Accepted}
+use Rattle.settings.specs.Settings.{settingsOf, checkOf, planFor, Right}
+use Rattle.settings.proofs.SettingsLaws.{accepted-is, passed, right}
+use Rattle.symbols.specs.Symbols.{symbolsOf}
+use Rattle.symbols.proofs.CountLaws.{symbols-some}
+use Rattle.frame.specs.Points.{floatsOf}
+use Rattle.assembler.specs.Assembled.{byteOf}
+use Rattle.reader_state.specs.declared.state.OpenSettings.{OpenSettings}
+use Rattle.reader_state.specs.declared.state.Reader.{Reader}
+use Rattle.acceptance.specs.declared.accept.StepAnswer.the-variants.{First, Next}
+use Rattle.acceptance.specs.declared.accept.Stepped.{Stepped}
+use Rattle.reader_state.specs.State.{openRaw}
+use Rattle.acceptance.specs.Accepted.{answered}
+use Rattle.reader.specs.Step.{stepOf, stepNumber}
+use Rattle.reader_runs.specs.Run.{stateBefore, answerTo, sliceAfter, memoryBefore}
+use Rattle.reader_runs.specs.Sent.{settingsFor, withSeed, FloatsSent, stateAfter, SentBy, Rooms}
+use Rattle.reader_runs.proofs.Steps.{sound, step-gives, step-agrees}
+use Rattle.reader_runs.proofs.Runs.{floats-agree, run-state, run-takes, run-gives}
+use Rattle.reader_runs.proofs.Memory.{bytesBefore, bytes-all, slice-filled, memory-filled}
+use Rattle.reader_runs.proofs.Payloads.{byte-back, payloadOf, payload-small, payload-bits, sent-payload, payload-sent}
+use Rattle.reader_runs.proofs.Unique.{seed-told, bytes-told}
+use Rattle.reader_runs.proofs.Endings.{ended-step, ended-slice, ended-by, stays-from}
+use Rattle.demands.specs.Frames.{WholePayload}
+use Rattle.demands.specs.Demand2.{IsFrame, GivesSymbol, lengths, CompleteWith, ClosedFrom, AgreeBefore, stateOf, StepsExactly, StatesLead, withoutSeed, symbolsOfFrame, Demand2a, Demand2b, Demand2c, Demand2d, Demand2e, Demand2f, Demand2g}
+use Rattle.demands.proofs.Reading.{begun-ready, written-is, written-long, gives-sent, sent-gives}
+
+accepted-zero : (first : Bool) (seed : ℕ) → stepNumber (cond first (First seed) Next) ≡ 0
+accepted-zero true seed = refl
+accepted-zero false seed = refl
+
+-- a frame of bytes whose first m symbols are given, as a frame of payload bits
+abbrev gives-all : (o : OpenSettings) → checkOf (openRaw o) ≡ Accepted (settingsFor o) → (S : ℕ → List Float) (m : ℕ) → m ≤ symbolsOf (settingsFor o)
+    → (seed : ℕ) (p : List ℕ) → IsFrame o seed p → ((n : ℕ) → n < m → GivesSymbol o seed p n (S n)) → SentBy (settingsFor o) S m
+gives-all o ready S m few seed p frame gives =
+    payload-sent (settingsFor o) S m seed p (frame .0) (frame .1 .0)
+    (λ n l. gives-sent o ready seed (frame .0) (frame .1 .0) p n (omega (arith, frame .1 .1 .0)) (omega (arith, l, few)) (S n) (gives n l))
+
+-- ---- (a)
+
+pub demand-2a : Demand2a
+demand-2a o S M m begun below room =
+    let ready = begun-ready o begun in
+    let s = settingsFor o in
+    let rooms : Rooms s S (lengths M) (m + 1) = λ n l. room n (omega (arith, l)) in (
+      λ accepted.
+          let f = run-gives o ready S (lengths M) (m + 1) (omega (arith, below)) rooms (λ n l. accepted n (omega (arith, l))) in
+          let long : length (payloadOf (f .v) (s .length)) ≡ o .length = length-firsts (byteOf (f .v)) (s .length) in
+          let some : 1 ≤ f .seed = f .seed-some in
+          let most : f .seed ≤ 127 = omega (arith, f .seed-small) in (
+            f .seed,
+            (
+              payloadOf (f .v) (s .length),
+              (
+                (some, (most, (long, payload-small (f .v) (f .bits) (s .length)))),
+                λ n l. sent-gives o ready (f .seed) some most (payloadOf (f .v) (s .length)) n (omega (arith, long)) (omega (arith, l, below)) (S n)
+                    (sent-payload s (sound o ready) o S (m + 1) f n (omega (arith, l))),
+              ),
+            ),
+          ),
+      λ (seed, (p, (frame, gives))) n l.
+          ap stepNumber (run-takes o ready S (lengths M) (m + 1) (omega (arith, below)) rooms
+          (gives-all o ready S (m + 1) (omega (arith, below)) seed p frame (λ k b. gives k (omega (arith, b)))) n (omega (arith, l)))
+          ∙ accepted-zero (eqb n 0) seed,
+    )
+
+-- ---- (b)
+
+pub demand-2b : Demand2b
+demand-2b o S M m begun below room seed p (some, (most, (long, small))) gives n l =
+    let ready = begun-ready o begun in
+    let s = settingsFor o in
+    let few : m + 1 ≤ symbolsOf s = omega (arith, below) in
+    let rooms : Rooms s S (lengths M) (m + 1) = λ k b. room k (omega (arith, b)) in
+    let f = gives-all o ready S (m + 1) few seed p (some, (most, (long, small))) (λ k b. gives k (omega (arith, b))) in
+    let here : n < m + 1 = omega (arith, l) in
+    let put = slice-filled o ready S (lengths M) (m + 1) few rooms f n here (M n) (room n l .1) in
+    let from = bytesBefore s n in
+    let to = bytesBefore s (n + 1) in (
+      run-takes o ready S (lengths M) (m + 1) few rooms f n here,
+      (
+        put .same,
+        (
+          λ j (inside, (late, early)).
+              let low : from ≤ j = omega (arith, late) in
+              let high : j - from < to - from = omega (arith, early, inside, low) in
+              let at : from + (j - from) ≡ j = omega (arith, low) in
+              ap (λ (k : ℕ). getD (sliceAfter o S (lengths M) n (M n)) k 0) (sym at)
+              ∙ put .done (j - from) high
+              ∙ ap (byteOf (payloadBit p)) at
+              ∙ byte-back p j (small j (omega (arith, inside, long))),
+          λ j other. parts from (from + (to - from)) j
+              (λ b. put .before j b)
+              (λ b c. absurd (other (complete o n j b c)))
+              (λ b. put .after j b),
+        ),
+      ),
+    )
+  where
+    complete : (o : OpenSettings) (n j : ℕ) → bytesBefore (settingsFor o) n ≤ j → j < bytesBefore (settingsFor o) n + (bytesBefore (settingsFor o) (n + 1) - bytesBefore (settingsFor o) n)
+        → CompleteWith o n j
+    complete o n j low high = (omega (arith, low, high), (omega (arith, low, high), omega (arith, low, high)))
+
+-- ---- (c)
+
+-- two frames with the same first m symbols
+told : (o : OpenSettings) → checkOf (openRaw o) ≡ Accepted (settingsFor o) → (S : ℕ → List Float) (m : ℕ) → 0 < m → m ≤ symbolsOf (settingsFor o)
+    → (seed seed′ : ℕ) (p q : List ℕ) → IsFrame o seed p → IsFrame o seed′ q
+    → ((n : ℕ) → n < m → FloatsSent (settingsFor o) (payloadBit p) seed n (S n)) → ((n : ℕ) → n < m → FloatsSent (settingsFor o) (payloadBit q) seed′ n (S n))
+    → (seed ≡ seed′) × ((j : ℕ) → j < bytesBefore (settingsFor o) m → getD p j 0 ≡ getD q j 0)
+told o ready S m some few seed seed′ p q (s1, (m1, (l1, b1))) (s2, (m2, (l2, b2))) sent sent′ =
+    let f = payload-sent (settingsFor o) S m seed p s1 m1 sent in
+    let h = payload-sent (settingsFor o) S m seed′ q s2 m2 sent′ in (
+      seed-told o ready S m some few f h,
+      λ j l.
+          let inside : j < o .length = omega (arith, l) in
+          sym (byte-back p j (b1 j (omega (arith, inside, l1)))) ∙ bytes-told o ready S m some few f h j l ∙ byte-back q j (b2 j (omega (arith, inside, l2))),
+    )
+
+-- payloads of one length that agree on every byte of it
+same-payload : (o : OpenSettings) (seed seed′ : ℕ) (p q : List ℕ) → IsFrame o seed p → IsFrame o seed′ q
+    → ((j : ℕ) → j < o .length → getD p j 0 ≡ getD q j 0) → p ≡ q
+same-payload o seed seed′ p q (s1, (m1, (l1, b1))) (s2, (m2, (l2, b2))) same = ext-getD 0 p q (l1 ∙ sym l2) (λ j l. same j (omega (arith, l, l1)))
+
+pub demand-2c : Demand2c
+demand-2c o S m begun below seed seed′ p q (s1, (m1, (l1, b1))) (s2, (m2, (l2, b2))) gives gives′ =
+    let ready = begun-ready o begun in
+    let s = settingsFor o in
+    let both = told o ready S (m + 1) (omega arith) (omega (arith, below)) seed seed′ p q (s1, (m1, (l1, b1))) (s2, (m2, (l2, b2)))
+    (λ n l. gives-sent o ready seed s1 m1 p n (omega (arith, l1)) (omega (arith, l, below)) (S n) (gives n (omega (arith, l))))
+    (λ n l. gives-sent o ready seed′ s2 m2 q n (omega (arith, l2)) (omega (arith, l, below)) (S n) (gives′ n (omega (arith, l)))) in (
+      both .0,
+      (
+        λ j inside early. both .1 j (omega (arith, inside, early)),
+        λ last. same-payload o seed seed′ p q (s1, (m1, (l1, b1))) (s2, (m2, (l2, b2)))
+            (λ j inside. both .1 j (omega (arith, inside, bytes-all s (sound o ready), ap (bytesBefore s) last))),
+      ),
+    )
+
+-- ---- (d)
+
+closed-from : (o : OpenSettings) (S : ℕ → List Float) (M : ℕ → List ℕ) (n : ℕ) → stateBefore o S (lengths M) n .ended ≡ true → ClosedFrom o S M n
+closed-from o S M n ended k l =
+    let here = stays-from o S (lengths M) n ended k l in
+    let ended′ : stateBefore o S (lengths M) k .ended ≡ true = ap (λ (t : Reader). t .ended) here ∙ ended in (
+      ap (λ (r : Stepped). stepNumber (r .answer)) (ended-step (stateBefore o S (lengths M) k) ended′ (S k) (lengths M k)),
+      (stays-from o S (lengths M) n ended (k + 1) (omega (arith, l)), ended-slice (stateBefore o S (lengths M) k) ended′ (S k) (M k)),
+    )
+
+next-state : (o : OpenSettings) (S : ℕ → List Float) (bytes : ℕ → ℕ) (n : ℕ)
+    → stateBefore o S bytes (n + 1) ≡ stepOf (stateBefore o S bytes n) (S n) (bytes n) .state
+unfolding stateBefore
+next-state o S bytes n = ap (stateBefore o S bytes) (add-one n)
+
+-- the state after the last symbol is ended
+last-ended : (o : OpenSettings) (s : Settings) (v : ℕ → ℕ) (seed : ℕ) → stateAfter o s v seed (symbolsOf s) .ended ≡ true
+unfolding stateAfter
+last-ended o s v seed = eq-eqb (symbolsOf s) (symbolsOf s) refl
+
+pub demand-2d : Demand2d
+demand-2d o S M = (
+  λ n refused. closed-from o S M (n + 1)
+      (ap (λ (t : Reader). t .ended) (next-state o S (lengths M) n) ∙ ended-by (stateBefore o S (lengths M) n) (S n) (lengths M n) refused),
+  λ begun room accepted.
+      let ready = begun-ready o begun in
+      let s = settingsFor o in
+      let f = run-gives o ready S (lengths M) (symbolsOf s) (omega arith) room accepted in
+      closed-from o S M (symbolsOf s)
+      (ap (λ (t : Reader). t .ended) (run-state o ready S (lengths M) (symbolsOf s) (omega arith) room f (symbolsOf s) (omega arith))
+      ∙ last-ended o s (f .v) (f .seed)),
+)
+
+-- ---- (e)
+
+pub steps-exactly : StepsExactly
+steps-exactly o n begun below seed p (s1, (m1, (l1, b1))) points bytes room whole = (
+  (
+    λ accepted.
+        let e = step-gives o ready (payloadBit p) seed (payload-bit p) s1 (omega (arith, m1)) n below points room bytes whole accepted in
+        let g = e .0 in
+        let q = payloadOf (g .w) (s .length) in
+        let long : length q ≡ o .length = length-firsts (byteOf (g .w)) (s .length) in
+        let most : g .seed′ ≤ 127 = omega (arith, g .seed-small) in
+        let same : (k : ℕ) → k < 8 * s .length → payloadBit q k ≡ g .w k = payload-bits (g .w) (g .w-bit) (s .length) in
+        let sent = floats-agree s (sound o ready) o (n + 1) (g .w) (g .seed′) (payloadBit q) (g .seed′)
+        (record { bits = λ k h. same k (omega (arith, h)); seeds = λ h. refl }) n (omega arith) points (e .1) in (
+          g .seed′,
+          (
+            q,
+            (
+              (g .seed-some, (most, (long, payload-small (g .w) (g .w-bit) (s .length)))),
+              (
+                (g .agree .seeds, λ k h. same k (omega (arith, h)) ∙ g .agree .bits k h),
+                sent-gives o ready (g .seed′) (g .seed-some) most q n (omega (arith, long)) below points sent,
+              ),
+            ),
+          ),
+        ),
+    λ (seed′, (q, (frame, (agree, gives)))).
+        ap (λ (r : Stepped). stepNumber (r .answer)) (goes-on seed′ q frame agree gives) ∙ accepted-zero (eqb n 0) seed′,
+  ),
+  λ seed′ q frame agree gives. ap (λ (r : Stepped). r .state) (goes-on seed′ q frame agree gives),
+)
+  where
+    s : Settings
+    s = settingsFor o
+
+    ready : checkOf (openRaw o) ≡ Accepted (settingsFor o)
+    ready = begun-ready o begun
+
+    goes-on : (seed′ : ℕ) (q : List ℕ) → IsFrame o seed′ q → AgreeBefore o n seed p seed′ q → GivesSymbol o seed′ q n points
+        → stepOf (stateOf o seed p n) points bytes ≡ answered (cond (eqb n 0) (First seed′) Next) (stateOf o seed′ q (n + 1))
+    goes-on seed′ q (s2, (m2, (l2, b2))) agree gives =
+        step-agrees o ready (payloadBit p) seed (payloadBit q) seed′ (payload-bit q) s2 (omega (arith, m2)) n below
+        (record { bits = agree .1; seeds = agree .0 }) points room
+        (gives-sent o ready seed′ s2 m2 q n (omega (arith, l2)) below points gives) bytes whole
+
+pub states-lead : StatesLead
+states-lead o S M m begun few room seed p frame gives =
+    let ready = begun-ready o begun in
+    run-state o ready S (lengths M) m few room (gives-all o ready S m few seed p frame gives) m (omega arith)
+
+pub demand-2e : Demand2e
+demand-2e = (steps-exactly, states-lead)
+
+-- ---- (f)
+
+-- the bytes that payload bits write are the payload's first
+first-bytes : (p : List ℕ) (bytes : ℕ) → bytes ≤ length p → AreBytes p → firsts (byteOf (payloadBit p)) bytes ≡ take bytes p
+first-bytes p bytes whole small =
+    ext-getD 0 _ _ (length-firsts (byteOf (payloadBit p)) bytes ∙ sym (length-take-le bytes p whole))
+    (λ j l.
+    let h : j < bytes = omega (arith, l, length-firsts (byteOf (payloadBit p)) bytes) in
+    getD-firsts 0 (byteOf (payloadBit p)) bytes j h ∙ byte-back p j (small j (omega (arith, h, whole))) ∙ sym (getD-take bytes p j 0 h))
+
+module _ (a : RawSettings) (accepted : checkOf a ≡ Accepted (settingsOf a)) (p : List ℕ) (whole : WholePayload a p) (out : ℕ → List Float)
+    (slice : List ℕ) (enough : a .length ≤ length slice) where
+  abbrev o : OpenSettings
+  o = withoutSeed a
+
+  ready : checkOf (openRaw o) ≡ Accepted (settingsFor o)
+  ready =
+      let t = passed a (settingsOf a) accepted in
+      sym (accepted-is (openRaw o) (t .width) (t .mcs) (t .format) (t .length) refl)
+
+  in-range : Right (settingsOf a)
+  in-range = right a (settingsOf a) accepted
+
+  most : a .seed ≤ 127
+  most = omega (arith, in-range .seed-most)
+
+  abbrev S : ℕ → List Float
+  S = symbolsOfFrame a p out
+
+  module _ (room : (n : ℕ) → floatsOf (settingsFor o) ≤ length (out n)) where
+    abbrev read : SentBy (settingsFor o) S (symbolsOf (settingsFor o))
+    read = payload-sent (settingsFor o) S (symbolsOf (settingsFor o)) (a .seed) p (in-range .seed-some) most
+        (λ n l g h. ap (toBits binary32) (written-is o ready (a .seed) (in-range .seed-some) most p n (whole .0) l (out n) (room n) g h))
+
+    rooms : Rooms (settingsFor o) S (λ k. length slice) (symbolsOf (settingsFor o))
+    rooms n l = (omega (arith, room n, written-long o ready (a .seed) (in-range .seed-some) most p n (whole .0) l (out n) (room n)), enough)
+
+    read-answers : (n : ℕ) → n < symbolsOf (settingsFor o) → answerTo o S (λ k. length slice) n ≡ cond (eqb n 0) (First (a .seed)) Next
+    read-answers n l = run-takes o ready S (λ k. length slice) (symbolsOf (settingsFor o)) (omega arith) rooms read n l
+
+    read-bytes : memoryBefore o S (λ k. length slice) (symbolsOf (settingsFor o)) slice ≡ take (a .length) p ++ drop (a .length) slice
+    read-bytes =
+        fill-list 0 (byteOf (payloadBit p)) (a .length) slice _ enough
+        (fill-end 0 0 (byteOf (payloadBit p)) (bytes-all (settingsFor o) (sound o ready))
+        (memory-filled o ready S (λ k. length slice) (symbolsOf (settingsFor o)) (omega arith) rooms read slice enough (symbolsOf (settingsFor o)) (omega arith)))
+        ∙ ap (λ (l : List ℕ). l ++ drop (a .length) slice) (first-bytes p (a .length) (whole .0) (whole .1))
+
+-- what is said of the settings that raw settings mean
+abbrev ReadBack : (a : RawSettings) (p : List ℕ) (out : ℕ → List Float) (slice : List ℕ) → Settings → Type 0
+ReadBack a p out slice s = ((n : ℕ) → floatsOf s ≤ length (out n))
+    → ((n : ℕ) → n < symbolsOf s → answerTo (withoutSeed a) (symbolsOfFrame a p out) (λ k. length slice) n ≡ cond (eqb n 0) (First (a .seed)) Next)
+    × (memoryBefore (withoutSeed a) (symbolsOfFrame a p out) (λ k. length slice) (symbolsOf s) slice ≡ take (a .length) p ++ drop (a .length) slice)
+
+meant-back : (a : RawSettings) → checkOf a ≡ Accepted (settingsOf a) → (p : List ℕ) → WholePayload a p → (out : ℕ → List Float) (slice : List ℕ)
+    → a .length ≤ length slice → ReadBack a p out slice (settingsOf a)
+unfolding symbolsOf planFor
+meant-back a accepted p whole out slice enough room =
+    (read-answers a accepted p whole out slice enough room, read-bytes a accepted p whole out slice enough room)
+
+pub demand-2f : Demand2f
+demand-2f a p s accepted whole out room slice enough =
+    let meant = passed a s accepted .meant in
+    subst (ReadBack a p out slice) meant (meant-back a (accepted ∙ ap Accepted (sym meant)) p whole out slice enough) room
+
+-- ---- (g)
+
+pub demand-2g : Demand2g
+demand-2g o begun seed seed′ p q (s1, (m1, (l1, b1))) (s2, (m2, (l2, b2))) out out′ room same =
+    let ready = begun-ready o begun in
+    let s = settingsFor o in
+    let right = sound o ready in
+    let both = told o ready (symbolsOfFrame (withSeed o seed) p out) (symbolsOf s) (symbols-some s right) (omega arith) seed seed′ p q
+    (s1, (m1, (l1, b1))) (s2, (m2, (l2, b2)))
+    (λ n l g h. ap (toBits binary32) (written-is o ready seed s1 m1 p n (omega (arith, l1)) l (out n) (room n .0) g h))
+    (λ n l g h. same n l g h ∙ ap (toBits binary32) (written-is o ready seed′ s2 m2 q n (omega (arith, l2)) l (out′ n) (room n .1) g h)) in (
+      both .0,
+      same-payload o seed seed′ p q (s1, (m1, (l1, b1))) (s2, (m2, (l2, b2))) (λ j inside. both .1 j (omega (arith, inside, bytes-all s right))),
+    )
