@@ -72,7 +72,7 @@ demand-2a o S M m begun below room =
             (
               payloadOf (f .v) (s .length),
               (
-                (some, (most, (long, payload-small (f .v) (f .bits) (s .length)))),
+                (omega (arith, some), (most, (long, λ i l. omega (arith, payload-small (f .v) (f .bits) (s .length) i l)))),
                 λ n l. sent-gives o ready (f .seed) some most (payloadOf (f .v) (s .length)) n (omega (arith, long)) (omega (arith, l, below)) (S n)
                     (sent-payload s (sound o ready) o S (m + 1) f n (omega (arith, l))),
               ),
@@ -208,9 +208,9 @@ steps-exactly o n begun below seed p (s1, (m1, (l1, b1))) points bytes room whol
           (
             q,
             (
-              (g .seed-some, (most, (long, payload-small (g .w) (g .w-bit) (s .length)))),
+              (omega (arith, g .seed-some), (most, (long, λ i l. omega (arith, payload-small (g .w) (g .w-bit) (s .length) i l)))),
               (
-                (g .agree .seeds, λ k h. same k (omega (arith, h)) ∙ g .agree .bits k h),
+                (g .agree .seeds, λ k h. same k (omega (arith, h)) ∙ g .agree .bits k (omega (arith, h))),
                 sent-gives o ready (g .seed′) (g .seed-some) most q n (omega (arith, long)) below points sent,
               ),
             ),

@@ -1,5 +1,6 @@
 -- Demand 2 of the reader: "The reader, begun by its start and handed back each state as it was returned, accepts symbols exactly when some payload and seed
--- give them, and returns that payload and seed." The terms are in proofs/Demand2; `read_frame` (crate frame_reader) promises `FrameRead` of its own slices.
+-- give them, and returns that payload and seed." The terms are in proofs/Demand2; `read_frame` (crate
+-- frame_reader) promises the same of its own slices.
 use mathlib.Core.Path.{_≡_}
 use mathlib.Core.Bool.{cond}
 use mathlib.Core.List.{List, _++_}
@@ -57,7 +58,7 @@ RoomAt o S M n = (floatsOf (settingsFor o) ≤ length (S n)) × (o .length ≤ l
 abbrev pub Accepts : StepAnswer → Type 0
 Accepts a = stepNumber a ≡ 0
 
--- byte j is complete with symbol n and was not before it: its last bit, data bit 16 + 8j + 7, is one of the symbol's or, before the first payload bit, none
+-- byte j is complete with symbol n and was not before it: its last bit, data bit 16 + 8j + 7, is one of the symbol's own
 abbrev pub CompleteWith : (o : OpenSettings) (n j : ℕ) → Type 0
 CompleteWith o n j =
     (j < o .length) × ((n * planFor (settingsFor o) .dbps < 16 + 8 * j + 8) × (16 + 8 * j + 8 ≤ (n + 1) * planFor (settingsFor o) .dbps))

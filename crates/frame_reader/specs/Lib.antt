@@ -1,0 +1,2 @@
+pub mod WholeFrame
+pub mod Asked

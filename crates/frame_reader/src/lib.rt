@@ -1,0 +1,2 @@
+// A whole frame read from one slice of points.
+pub mod read;
