@@ -5,6 +5,7 @@ use calls::points_call;
 use calls::sig_read_call;
 use calls::sig_write_call;
 use conversions::raw_settings;
+use frame_reader::call::read_frame_call;
 use reader_calls::place_call;
 use reader_calls::start_call;
 use reader_calls::step_call;
@@ -19,6 +20,8 @@ ghost use Rattle.query.specs.Query.{queryOf};
 ghost use lib.IntN.{pos};
 ghost use Rattle.reader_state.specs.State.{startOf};
 ghost use Rattle.reader_numbers.specs.Numbers.{openOf, startResult, stepResult, stepResultInto, placeResult};
+ghost use Rattle.frame_reader.specs.WholeFrame.{readFrameOf, readFrameInto};
+ghost use Rattle.frame_reader.specs.Result.{frameResult};
 ghost use Rattle.conversions.specs.Results.{rawOf, countResult, writtenResult, readResult, pointsResult, carrierResult, carrierInto};
 
 // The symbol count.
@@ -242,4 +245,34 @@ pub extern "C" fn ht_reader_place(
         short_guard,
     );
     place_call(open, state, points)
+}
+
+// A whole frame read: the seed, or the refusal's number negated.
+#[no_mangle]
+pub extern "C" fn ht_read_frame(
+    width: u32,
+    mcs: u32,
+    format: u32,
+    length: u32,
+    smoothing: u32,
+    not_sounding: u32,
+    aggregation: u32,
+    short_guard: u32,
+    points: &[f32],
+    payload: &mut [u8],
+) -> i64
+    ensures { λ r. ⌜ r ≡ frameResult (readFrameOf (openOf width mcs format length smoothing «not_sounding» aggregation «short_guard») (now (points .entry)) (lengthOf (now (payload .entry)))) ⌝ }
+    ensures { λ _. ⌜ now (payload .exit) ≡ readFrameInto (openOf width mcs format length smoothing «not_sounding» aggregation «short_guard») (now (points .entry)) (now (payload .entry)) ⌝ }
+{
+    let open = open_settings(
+        width,
+        mcs,
+        format,
+        length,
+        smoothing,
+        not_sounding,
+        aggregation,
+        short_guard,
+    );
+    read_frame_call(open, points, payload)
 }

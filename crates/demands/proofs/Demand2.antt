@@ -1,6 +1,6 @@
 -- Demand 2 of the reader: a term for each sentence of specs/Demand2. Assumes nothing.
 use mathlib.Core.Path.{_≡_, _∙_, refl, sym, ap, subst}
-use mathlib.Core.Bool.{Bool, true, false, cond}
+use mathlib.Core.Bool.{true, cond}
 use mathlib.Core.List.{List, _++_}
 use Prim.Native.Nat.{ℕ, _+_, _-_, _*_, _/_, _<_, _≤_}
 use native.Mathlib.Numerals.{add-one}
@@ -36,7 +36,7 @@ use Rattle.reader.specs.Step.{stepOf, stepNumber}
 use Rattle.reader_runs.specs.Run.{stateBefore, answerTo, sliceAfter, memoryBefore}
 use Rattle.reader_runs.specs.Sent.{settingsFor, withSeed, FloatsSent, stateAfter, SentBy, Rooms}
 use Rattle.reader_runs.proofs.Steps.{sound, step-gives, step-agrees}
-use Rattle.reader_runs.proofs.Runs.{floats-agree, run-state, run-takes, run-gives}
+use Rattle.reader_runs.proofs.Runs.{accepted-zero, floats-agree, run-state, run-takes, run-gives}
 use Rattle.reader_runs.proofs.Memory.{bytesBefore, bytes-all, slice-filled, memory-filled}
 use Rattle.reader_runs.proofs.Payloads.{byte-back, payloadOf, payload-small, payload-bits, sent-payload, payload-sent}
 use Rattle.reader_runs.proofs.Unique.{seed-told, bytes-told}
@@ -45,12 +45,8 @@ use Rattle.demands.specs.Frames.{WholePayload}
 use Rattle.demands.specs.Demand2.{IsFrame, GivesSymbol, lengths, CompleteWith, ClosedFrom, AgreeBefore, stateOf, StepsExactly, StatesLead, withoutSeed, symbolsOfFrame, Demand2a, Demand2b, Demand2c, Demand2d, Demand2e, Demand2f, Demand2g}
 use Rattle.demands.proofs.Reading.{begun-ready, written-is, written-long, gives-sent, sent-gives}
 
-accepted-zero : (first : Bool) (seed : ℕ) → stepNumber (cond first (First seed) Next) ≡ 0
-accepted-zero true seed = refl
-accepted-zero false seed = refl
-
 -- a frame of bytes whose first m symbols are given, as a frame of payload bits
-abbrev gives-all : (o : OpenSettings) → checkOf (openRaw o) ≡ Accepted (settingsFor o) → (S : ℕ → List Float) (m : ℕ) → m ≤ symbolsOf (settingsFor o)
+abbrev pub gives-all : (o : OpenSettings) → checkOf (openRaw o) ≡ Accepted (settingsFor o) → (S : ℕ → List Float) (m : ℕ) → m ≤ symbolsOf (settingsFor o)
     → (seed : ℕ) (p : List ℕ) → IsFrame o seed p → ((n : ℕ) → n < m → GivesSymbol o seed p n (S n)) → SentBy (settingsFor o) S m
 gives-all o ready S m few seed p frame gives =
     payload-sent (settingsFor o) S m seed p (frame .0) (frame .1 .0)

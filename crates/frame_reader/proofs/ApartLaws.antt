@@ -1,20 +1,16 @@
 -- The whole frame's reading from its symbols': bytes read apart and copied, and the public call's cases. Assumes nothing.
 use mathlib.Core.Path.{_≡_, _∙_, refl, sym, ap, subst}
-use mathlib.Core.Bool.{Bool, true, false, cond, not, _||_}
+use mathlib.Core.Bool.{Bool, true, false, cond, _||_}
 use mathlib.Core.List.{List}
-use mathlib.Core.Logic.{⊎-elim}
-use Prim.Native.Nat.{ℕ, _*_, _<_, _≤_}
+use Prim.Native.Nat.{ℕ, _*_, _≤_}
 use native.Mathlib.Nat.{mul-le-mul}
 use native.Mathlib.Omega.{arith}
-use borrow.Author.Tests.{eqb-true, lt-ltb, ltb-false}
-use lib.Dec.{eqb, ltb}
+use borrow.Author.Tests.{ltb-false}
+use lib.Dec.{ltb}
 use lib.ListN.{length, getD}
 use lib.Ieee.{Float}
 use Rattle.laws.specs.Filled.{Filled}
-use Rattle.laws.specs.Least.{firstFrom}
-use Rattle.laws.proofs.Refusing.{true-not-false}
 use Rattle.laws.proofs.Reflect.{or-false}
-use Rattle.demapper.proofs.FirstLaws.{Passing, NonePasses, first-cases}
 use Rattle.settings.specs.declared.settings.Refusal.the-variants.{Room}
 use Rattle.settings.specs.declared.settings.Settings.{Settings}
 use Rattle.settings.specs.declared.settings.Checked.{Checked}
@@ -26,58 +22,18 @@ use Rattle.symbols.proofs.CountLaws.{symbols-few}
 use Rattle.frame.specs.Points.{floatsOf}
 use Rattle.reader_state.specs.declared.state.OpenSettings.{OpenSettings}
 use Rattle.reader_state.specs.declared.state.Reader.{Reader}
-use Rattle.acceptance.specs.declared.accept.StepAnswer.{StepAnswer}
-use Rattle.acceptance.specs.declared.accept.StepAnswer.the-variants.{First, Next, BadPoint, Refused as StepRefused}
 use Rattle.reader_state.specs.State.{openRaw, startBy, startOf}
-use Rattle.reader.specs.Step.{stepNumber, stepSeed}
 use Rattle.reader_runs.specs.Sent.{settingsFor}
 use Rattle.frame_reader.specs.declared.read.FrameAnswer.{FrameAnswer}
-use Rattle.frame_reader.specs.declared.read.FrameAnswer.the-variants.{Read, BadPoint as BadPointAt, BadSymbol, Refused as FrameRefused}
-use Rattle.frame_reader.specs.WholeFrame.{answerAt, memoryAt, firstRefused, refusedAs, symbolsAnswer, frameNoRoom, readFrameBy, readFrameOf, frameIntoBy, readFrameInto}
+use Rattle.frame_reader.specs.declared.read.FrameAnswer.the-variants.{Read, Refused as FrameRefused}
+use Rattle.frame_reader.specs.WholeFrame.{memoryAt, symbolsAnswer, frameNoRoom, readFrameBy, readFrameOf, frameIntoBy, readFrameInto}
 use Rattle.frame_reader.specs.Asked.{FrameAsked, SymbolsAsked, SymbolsRead, FrameLeft}
+use Rattle.frame_reader.proofs.AnswerLaws.{first-count, none-refused}
+use Rattle.frame_reader.specs.Statements.{ReadsFrame}
 use Rattle.frame_reader.proofs.FrameLaws.{answer-room, copied}
-
--- ---- a frame that is read has no refused symbol
-
-not-false : (t : Bool) → not t ≡ false → t ≡ true
-not-false true e = refl
-not-false false e = absurd (true-not-false e)
-
-refused-not-read : (n : ℕ) (a : StepAnswer) (k : ℕ) → not (eqb (stepNumber a) 0) ≡ true → refusedAs n a ≡ Read k → ⊥
-refused-not-read n (First seed) k e g = true-not-false (sym e)
-refused-not-read n Next k e g = true-not-false (sym e)
-refused-not-read n (BadPoint i z) k e g = let w : _≡_ {A = ℕ} 0 1 = cc in omega arith
-refused-not-read n (StepRefused r) k e g = let w : _≡_ {A = ℕ} 0 1 = cc in omega arith
-
-module _ (o : OpenSettings) (points : List Float) (bytes : ℕ) where
-  abbrev refusedTest : ℕ → Bool
-  refusedTest n = not (eqb (stepNumber (answerAt o points bytes n)) 0)
-
-  none-refused : (k : ℕ) → symbolsAnswer o points bytes ≡ Read k
-      → (firstRefused o points bytes ≡ symbolsOf (settingsFor o)) × ((n : ℕ) → n < symbolsOf (settingsFor o) → stepNumber (answerAt o points bytes n) ≡ 0)
-  unfolding firstRefused
-  none-refused k e =
-      let S = symbolsOf (settingsFor o) in
-      ⊎-elim
-      (λ (p : Passing refusedTest 0 S (firstFrom refusedTest 0 S)).
-      absurd
-      (refused-not-read _ (answerAt o points bytes (firstFrom refusedTest 0 S)) k (p .passes)
-      (ap (λ (t : Bool). cond t (refusedAs (firstFrom refusedTest 0 S) (answerAt o points bytes (firstFrom refusedTest 0 S))) (Read (stepSeed (answerAt o points bytes 0))))
-      (sym (lt-ltb (firstFrom refusedTest 0 S) S (omega (arith, p .below))))
-      ∙ e)))
-      (λ (p : NonePasses refusedTest 0 S (firstFrom refusedTest 0 S)). (
-        omega (arith, p .beyond),
-        λ n l. eqb-true (stepNumber (answerAt o points bytes n)) 0 (not-false _ (p .fails n (omega arith) (omega arith))),
-      ))
-      (first-cases refusedTest 0 S)
+use Rattle.frame_reader.proofs.Exactly.{unread, reads-frame}
 
 -- ---- bytes read apart
-
-unread : (r : FrameAnswer) (read payload : List ℕ) → ((k : ℕ) → r ≡ Read k → ⊥) → payload ≡ frameIntoBy r read payload
-unread (Read k) read payload n = absurd (n k refl)
-unread (BadPointAt m i z) read payload n = refl
-unread (BadSymbol m r) read payload n = refl
-unread (FrameRefused r) read payload n = refl
 
 module _ (s : Settings) (reader : Reader) (points : List Float) (payload : List ℕ) (pre : FrameAsked s reader points payload) where
   abbrev o : OpenSettings
@@ -120,19 +76,19 @@ module _ (s : Settings) (reader : Reader) (points : List Float) (payload : List 
 
       -- a refused frame leaves the payload
       pub left-refused : ((k : ℕ) → r ≡ Read k → ⊥) → FrameLeft reader points r payload payload
-      left-refused n = record { answered = answer-is; left = unread r _ payload n }
+      left-refused n = record { answered = answer-is; left = sym (unread r _ payload n) }
 
       -- a frame read is copied
       pub left-read : (k : ℕ) → r ≡ Read k → (payload′ : List ℕ) → Filled 0 0 (λ i. getD apart′ i 0) (s .length) payload payload′
           → FrameLeft reader points r payload payload′
       left-read k e payload′ filled =
-          let none = none-refused o points (length apart) k (sym (read .answered) ∙ e) in
+          let all = none-refused o points (length apart) k (sym (read .answered) ∙ e) in
           let held : apart′ ≡ memoryAt o points (symbolsOf (settingsFor o)) apart
-          = read .left ∙ ap (λ (m : ℕ). memoryAt o points m apart) (none .0) in
+          = read .left ∙ ap (λ (m : ℕ). memoryAt o points m apart) (first-count o points (length apart) all) in
           record {
             answered = answer-is;
             left =
-                copied o ready points whole apart payload payload′ fits (omega (arith, same-length, pre .whole-payload)) (none .1)
+                copied o ready points whole apart payload payload′ fits (omega (arith, same-length, pre .whole-payload)) all
                 (subst (λ (l : ℕ). Filled 0 0 (λ i. getD (memoryAt o points (symbolsOf (settingsFor o)) apart) i 0) l payload payload′) (sym same-length)
                 (subst (λ (m : List ℕ). Filled 0 0 (λ i. getD m i 0) (s .length) payload payload′) held filled))
                 ∙ sym (ap (λ (a : FrameAnswer). frameIntoBy a (memoryAt o points (symbolsOf (settingsFor o)) payload) payload) e);
@@ -140,13 +96,19 @@ module _ (s : Settings) (reader : Reader) (points : List Float) (payload : List 
 
 -- ---- the public call
 
+-- what the call promises
+abbrev pub Promised : (o : OpenSettings) (points : List Float) (r : FrameAnswer) (payload payload′ : List ℕ) → Type 0
+Promised o points r payload payload′ =
+    (r ≡ readFrameOf o points (length payload)) × ((payload′ ≡ readFrameInto o points payload) × ReadsFrame o points r payload payload′)
+
 -- by the settings' answer
 pub frame-as : (o : OpenSettings) (points : List Float) (payload : List ℕ) (x : Checked) → x ≡ checkOf (openRaw o) → (r : FrameAnswer) (payload′ : List ℕ)
     → r ≡ readFrameBy x o points (length payload) → payload′ ≡ frameIntoBy r (memoryAt o points (symbolsOf (settingsFor o)) payload) payload
-    → (r ≡ readFrameOf o points (length payload)) × (payload′ ≡ readFrameInto o points payload)
+    → Promised o points r payload payload′
 frame-as o points payload x e r payload′ g h =
     let answer : r ≡ readFrameOf o points (length payload) = g ∙ ap (λ (y : Checked). readFrameBy y o points (length payload)) e in
-    (answer, h ∙ ap (λ (a : FrameAnswer). frameIntoBy a (memoryAt o points (symbolsOf (settingsFor o)) payload) payload) answer)
+    let left : payload′ ≡ readFrameInto o points payload = h ∙ ap (λ (a : FrameAnswer). frameIntoBy a (memoryAt o points (symbolsOf (settingsFor o)) payload) payload) answer in
+    (answer, (left, rw (answer, left) (reads-frame o points payload)))
 
 -- a started reader holds the settings
 started-settings : (x : Checked) (o : OpenSettings) → startBy x o .state .settings ≡ o
@@ -186,7 +148,7 @@ module _ (s : Settings) (o : OpenSettings) (accepted : Accepted s ≡ checkOf (o
         }
 
     pub frame-read : (r : FrameAnswer) (payload′ : List ℕ) → FrameLeft begun points r payload payload′
-        → (r ≡ readFrameOf o points (length payload)) × (payload′ ≡ readFrameInto o points payload)
+        → Promised o points r payload payload′
     frame-read r payload′ left =
         frame-as o points payload (Accepted s) accepted r payload′
         (left .answered ∙ ap (λ (p : OpenSettings). symbolsAnswer p points (length payload)) settings-are

@@ -1,3 +1,5 @@
+pub mod AnswerLaws
 pub mod FrameLaws
 pub mod LoopLaws
+pub mod Exactly
 pub mod ApartLaws

@@ -8,12 +8,10 @@ use native.Mathlib.Nat.{not-suc-le-zero, suc-mul, mul-le-mul}
 use native.Mathlib.Numerals.{add-one}
 use native.Mathlib.Omega.{arith}
 use borrow.Author.Count.{below-more}
-use borrow.Author.Tests.{eq-eqb, ne-eqb, lt-ltb, le-ltb}
-use lib.Dec.{eqb, ltb}
+use borrow.Author.Tests.{ne-eqb}
+use lib.Dec.{eqb}
 use lib.ListN.{length, drop}
 use lib.Ieee.{Float}
-use Rattle.laws.proofs.Search.{first-is}
-use Rattle.demapper.proofs.FirstLaws.{first-none}
 use Rattle.settings.specs.declared.settings.Refusal.{Refusal}
 use Rattle.settings.specs.declared.settings.Refusal.the-variants.{Width, Mcs, Format, Length, Seed, Source, Place, Room, Point, Code, Frame, Closed, SigCrc, SigForm}
 use Rattle.settings.specs.Settings.{numberOf}
@@ -33,8 +31,9 @@ use Rattle.reader_runs.specs.Run.{stateBefore, memoryBefore}
 use Rattle.reader_runs.specs.Sent.{settingsFor}
 use Rattle.frame_reader.specs.declared.read.FrameAnswer.{FrameAnswer}
 use Rattle.frame_reader.specs.declared.read.FrameAnswer.the-variants.{Read}
-use Rattle.frame_reader.specs.WholeFrame.{symbolAt, answerAt, memoryAt, firstRefused, refusedAs, symbolsAnswer}
+use Rattle.frame_reader.specs.WholeFrame.{symbolAt, answerAt, memoryAt, refusedAs}
 use Rattle.frame_reader.specs.Asked.{SymbolsAsked, SymbolsRead}
+use Rattle.frame_reader.proofs.AnswerLaws.{first-at, answer-at, first-count, answer-read}
 use Rattle.frame_reader.proofs.FrameLaws.{accepted-as}
 
 -- a refusal's number is not that of acceptance
@@ -111,12 +110,6 @@ module _ (reader : Reader) (count floats : ℕ) (points : List Float) (payload�
     at-is = omega arith;
   }
 
-  -- the answer by where the first refusal is
-  answer-by : (m : ℕ) → firstRefused o points bytes ≡ m
-      → symbolsAnswer o points bytes ≡ cond (ltb m symbols) (refusedAs m (answerAt o points bytes m)) (Read (stepSeed (answerAt o points bytes 0)))
-  answer-by m e =
-      ap (λ (k : ℕ). cond (ltb k symbols) (refusedAs k (answerAt o points bytes k)) (Read (stepSeed (answerAt o points bytes 0)))) e
-
   module _ (n : ℕ) (payload : List ℕ) (state : Reader) (seed at : ℕ) (b : Before o points payload₀ n payload state seed at) where
     -- the step's result is that of symbol n
     step-is : stepOf state (drop at points) (length payload) ≡ stepOf (stateAt n) (symbolAt (settingsFor o) points n) bytes
@@ -165,41 +158,26 @@ module _ (reader : Reader) (count floats : ℕ) (points : List Float) (payload�
         at-is = stride n symbols (floatsOf (settingsFor o)) at floats l (b .at-is) (pre .floats-are) .0;
       }
 
-      is-first : (stepNumber (stepped .answer) ≡ 0 → ⊥) → firstRefused o points bytes ≡ n
-      unfolding firstRefused
-      is-first refused =
-          first-is (λ k. not (eqb (stepNumber (answerAt o points bytes k)) 0)) 0 symbols n (omega arith) (omega arith)
-          (ap not (ne-eqb (stepNumber (answerAt o points bytes n)) 0 (λ z. refused (ap stepNumber answer-is ∙ z))))
-          (λ k low high. ap not (eq-eqb (stepNumber (answerAt o points bytes k)) 0 (b .accepted k high)))
+      refused-here : (stepNumber (stepped .answer) ≡ 0 → ⊥) → stepNumber (answerAt o points bytes n) ≡ 0 → ⊥
+      refused-here refused z = refused (ap stepNumber answer-is ∙ z)
 
       -- a refused one
       pub read-refused : (stepNumber (stepped .answer) ≡ 0 → ⊥) → (r : FrameAnswer) → r ≡ refusedAs n (stepped .answer) → SymbolsRead reader points r payload₀ payload′
       read-refused refused r g = record {
-        answered =
-            g
-            ∙ ap (refusedAs n) answer-is
-            ∙ sym (ap (λ (t : Bool). cond t (refusedAs n (answerAt o points bytes n)) (Read (stepSeed (answerAt o points bytes 0)))) (lt-ltb n symbols l))
-            ∙ sym (answer-by n (is-first refused));
+        answered = g ∙ ap (refusedAs n) answer-is ∙ sym (answer-at o points bytes n l (b .accepted) (refused-here refused));
         left =
             into ∙ refused-step-unchanged state (drop at points) payload (λ z. refused (ap (λ (r : Stepped). stepNumber (r .answer)) e ∙ z))
-            ∙ b .payload-is ∙ ap (λ (m : ℕ). memoryAt o points m payload₀) (sym (is-first refused));
+            ∙ b .payload-is ∙ ap (λ (m : ℕ). memoryAt o points m payload₀) (sym (first-at o points bytes n l (b .accepted) (refused-here refused)));
       }
-
-    no-first : n ≡ symbols → firstRefused o points bytes ≡ n
-    unfolding firstRefused
-    no-first all =
-        first-none (λ k. not (eqb (stepNumber (answerAt o points bytes k)) 0)) 0 symbols
-        (λ k low high. ap not (eq-eqb (stepNumber (answerAt o points bytes k)) 0 (b .accepted k (omega arith))))
-        ∙ omega arith
 
     -- all accepted
     pub read-all : symbols ≤ n → SymbolsRead reader points (Read seed) payload₀ payload
     read-all h =
         let all : n ≡ symbols = omega (arith, b .within) in
+        let accepted : (k : ℕ) → k < symbols → stepNumber (answerAt o points bytes k) ≡ 0 = λ k l. b .accepted k (omega (arith, l, all)) in
         record {
           answered =
               ap Read (b .seed-is (omega (arith, symbols-some (settingsFor o) (right (openRaw o) (settingsFor o) (pre .asked .accepted)))))
-              ∙ sym (ap (λ (t : Bool). cond t (refusedAs n (answerAt o points bytes n)) (Read (stepSeed (answerAt o points bytes 0)))) (le-ltb n symbols h))
-              ∙ sym (answer-by n (no-first all));
-          left = b .payload-is ∙ ap (λ (m : ℕ). memoryAt o points m payload₀) (sym (no-first all));
+              ∙ sym (answer-read o points bytes accepted);
+          left = b .payload-is ∙ ap (λ (m : ℕ). memoryAt o points m payload₀) (all ∙ sym (first-count o points bytes accepted));
         }

@@ -1,2 +1,4 @@
 pub mod WholeFrame
 pub mod Asked
+pub mod Result
+pub mod Statements

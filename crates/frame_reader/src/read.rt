@@ -17,6 +17,7 @@ ghost use Prim.Native.Nat.{_≤_};
 ghost use lib.ListN.{length, getD};
 ghost use Rattle.laws.specs.Filled.{Filled};
 ghost use Rattle.frame_reader.specs.WholeFrame.{readFrameOf, readFrameInto};
+ghost use Rattle.frame_reader.specs.Statements.{ReadsFrame};
 ghost use Rattle.frame_reader.specs.Asked.{SymbolsAsked, SymbolsRead, FrameAsked, FrameLeft};
 
 // The seed; the symbol, stream and subcarrier of the first point that fails; the symbol that 10 or 11 refuses; or the settings' refusal or 8.
@@ -91,8 +92,9 @@ fn read_apart(s: Settings, reader: Reader, points: &[f32], payload: &mut [u8]) -
 
 // The public call: the frame's payload and seed, or a refusal that changes nothing: the settings', 8, and then the symbols' 9, 10, 11.
 pub fn read_frame(o: OpenSettings, points: &[f32], payload: &mut [u8]) -> FrameAnswer
-    ensures { λ r. ⌜ r ≡ readFrameOf o (now (points .entry)) (length (now (payload .entry))) ⌝ }
-    ensures { λ _. ⌜ now (payload .exit) ≡ readFrameInto o (now (points .entry)) (now (payload .entry)) ⌝ }
+    ensures answered { λ r. ⌜ r ≡ readFrameOf o (now (points .entry)) (length (now (payload .entry))) ⌝ }
+    ensures left { λ _. ⌜ now (payload .exit) ≡ readFrameInto o (now (points .entry)) (now (payload .entry)) ⌝ }
+    ensures exactly { λ r. ⌜ ReadsFrame o (now (points .entry)) r (now (payload .entry)) (now (payload .exit)) ⌝ }
 {
     let checked = check(raw_of(o));
     let Checked::Accepted(s) = checked else {

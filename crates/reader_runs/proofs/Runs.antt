@@ -3,7 +3,7 @@
 use mathlib.Core.Path.{_≡_, _∙_, refl, sym, ap, ap₂, subst}
 use mathlib.Core.Bool.{Bool, true, false, cond}
 use mathlib.Core.List.{List, [], _∷_, _++_}
-use mathlib.Core.Logic.{⊎-elim}
+use mathlib.Core.Logic.{_⊎_, ⊎-elim}
 use Prim.Native.Nat.{ℕ, zero, suc, _+_, _-_, _*_, _/_, _%_, _<_, _≤_}
 use native.Mathlib.Nat.{zero-mul, suc-mul, mul-le-mul-right, not-suc-le-zero, eq-or-lt-of-le, le-of-suc-le-suc}
 use native.Mathlib.Numerals.{add-one}
@@ -37,7 +37,12 @@ use Rattle.reader.specs.Step.{stepOf, stepInto, stepNumber}
 use Rattle.reader_runs.specs.Run.{stateBefore, answerTo, sliceAfter}
 use Rattle.reader_runs.specs.Sent.{settingsFor, sentInput, FloatsSent, stateAfter, Agree, SentBy, Rooms}
 use Rattle.reader_runs.proofs.Finding.{agree-input}
-use Rattle.reader_runs.proofs.Steps.{sound, step-takes, step-writes, step-gives}
+use Rattle.reader_runs.proofs.Steps.{sound, step-takes, step-writes, step-gives, step-refused}
+
+-- an accepted symbol's number
+pub accepted-zero : (first : Bool) (seed : ℕ) → stepNumber (cond first (First seed) Next) ≡ 0
+accepted-zero true seed = refl
+accepted-zero false seed = refl
 
 -- symbols before one are those of every frame that agrees before it
 pub floats-agree : (s : Settings) → Right s → OpenSettings → (m : ℕ) (v : ℕ → ℕ) (seed : ℕ) (w : ℕ → ℕ) (seed′ : ℕ) → Agree s m v seed w seed′
@@ -141,3 +146,15 @@ module _ (o : OpenSettings) (ready : checkOf (openRaw o) ≡ Accepted (settingsF
               (λ (h : n < m). floats-agree s (sound o ready) o m (f .v) (f .seed) (g .w) (g .seed′) (g .agree) n h (S n) (f .sent n h))
               (eq-or-lt-of-le (le-of-suc-le-suc l));
         }
+
+    -- a symbol refused after accepted ones is refused by 9, 10 or 11
+    pub run-refused : (n : ℕ) → n < symbolsOf (settingsFor o) → Rooms (settingsFor o) S bytes (n + 1)
+        → ((k : ℕ) → k < n → stepNumber (answerTo o S bytes k) ≡ 0) → (stepNumber (answerTo o S bytes n) ≡ 0 → ⊥)
+        → (stepNumber (answerTo o S bytes n) ≡ 9) ⊎ ((stepNumber (answerTo o S bytes n) ≡ 10) ⊎ (stepNumber (answerTo o S bytes n) ≡ 11))
+    run-refused n l rooms accepted =
+        let rooms′ : Rooms s S bytes n = λ k b. rooms k (omega (arith, b)) in
+        let f = run-gives n (omega (arith, l)) rooms′ accepted in
+        let here = rooms n (omega arith) in
+        subst (λ (t : Reader). let k = stepNumber (stepOf t (S n) (bytes n) .answer) in (k ≡ 0 → ⊥) → (k ≡ 9) ⊎ ((k ≡ 10) ⊎ (k ≡ 11)))
+        (sym (run-state n (omega (arith, l)) rooms′ f n (omega arith)))
+        (step-refused o ready (f .v) (f .seed) (f .bits) (f .seed-some) (f .seed-small) n l (S n) (here .0) (bytes n) (here .1))

@@ -3,6 +3,7 @@
 use mathlib.Core.Path.{_≡_, _∙_, refl, sym, ap, subst}
 use mathlib.Core.Bool.{Bool, true, false, cond, not}
 use mathlib.Core.List.{List, _++_}
+use mathlib.Core.Logic.{_⊎_, inl, inr}
 use Prim.Native.Nat.{ℕ, _+_, _-_, _*_, _/_, _%_, _<_, _≤_}
 use native.Mathlib.Omega.{arith}
 use borrow.Author.Tests.{le-ltb, ne-eqb}
@@ -53,6 +54,13 @@ all-passed (At i k) c f e = absurd (omega (arith, e))
 all-passed AllGiven true true e = record { points = refl; code = refl; frame = refl }
 all-passed AllGiven true false e = absurd (omega (arith, e))
 all-passed AllGiven false f e = absurd (omega (arith, e))
+
+-- and what the number says of a step that does not
+refused-by : (a c f : Bool) (n : ℕ) → n ≡ cond a 9 (cond (not c) 10 (cond (not f) 11 0)) → (n ≡ 0 → ⊥) → (n ≡ 9) ⊎ ((n ≡ 10) ⊎ (n ≡ 11))
+refused-by true c f n e some = inl e
+refused-by false false f n e some = inr (inl e)
+refused-by false true false n e some = inr (inr e)
+refused-by false true true n e some = absurd (some e)
 
 -- an accepted symbol's bytes are written
 accepted-into : (first : Bool) (seed : ℕ) (written payload : List ℕ) → intoBy (cond first (First seed) Next) written payload ≡ written
@@ -138,6 +146,13 @@ module _ (o : OpenSettings) (ready : checkOf (openRaw o) ≡ Accepted (settingsF
           (sym (search-number s st points (searchOf p points (s .format) n)) ∙ ap (λ (r : Stepped). stepNumber (r .answer)) (sym (step-is bytes whole)) ∙ accepted) in
           let f = found s sound o n v seed bits some small (shownBit p points) (λ i r h l. shown-bit p points i r) (t .code) (t .frame) in
           (f, shown-floats p fits (sentInput s (f .w) (f .seed′)) points (s .format) n (t .points) (f .sent))
+
+      -- a refused one is refused by 9, 10 or 11
+      pub step-refused : (bytes : ℕ) → settingsFor o .length ≤ bytes → let k = stepNumber (stepOf (stateAfter o (settingsFor o) v seed n) points bytes .answer) in
+          (k ≡ 0 → ⊥) → (k ≡ 9) ⊎ ((k ≡ 10) ⊎ (k ≡ 11))
+      step-refused bytes whole =
+          refused-by (isAt (searchOf p points (s .format) n)) (decoded s st points) (frameRight s st (heard s st points)) _
+          (ap (λ (r : Stepped). stepNumber (r .answer)) (step-is bytes whole) ∙ search-number s st points (searchOf p points (s .format) n))
 
   -- the other way: a symbol of a frame that agrees with the state's is accepted, and the state returned is that frame's
   pub step-agrees : (v : ℕ → ℕ) (seed : ℕ) (w : ℕ → ℕ) (seed′ : ℕ) → ((k : ℕ) → w k < 2) → 0 < seed′ → seed′ < 128 → (n : ℕ) → n < symbolsOf (settingsFor o)

@@ -1,0 +1,191 @@
+-- Demand 2 of a whole frame's slices, and the refusals of its reading in their order: the terms of specs/Statements. Assumes nothing.
+use mathlib.Core.Path.{_≡_, _∙_, refl, sym, ap, subst}
+use mathlib.Core.Bool.{Bool, true, false, cond}
+use mathlib.Core.List.{List, _++_}
+use mathlib.Core.Logic.{_⊎_}
+use Prim.Native.Nat.{ℕ, _+_, _-_, _*_, _<_}
+use native.Mathlib.Omega.{arith}
+use borrow.Author.Tests.{le-ltb, ltb-false}
+use lib.Dec.{eqb, ltb}
+use lib.ListN.{length, drop}
+use lib.Seq.{ext-getD}
+use lib.Ieee.{Float}
+use Rattle.laws.specs.Firsts.{firsts}
+use Rattle.laws.proofs.Firsts.{length-firsts, getD-firsts, fill-list}
+use Rattle.laws.proofs.Reflect.{or-false}
+use Rattle.chain.specs.DataBits.{payloadBit}
+use Rattle.settings.specs.declared.settings.Refusal.{Refusal}
+use Rattle.settings.specs.declared.settings.Refusal.the-variants.{Room}
+use Rattle.settings.specs.declared.settings.Checked.{Checked}
+use Rattle.settings.specs.declared.settings.Checked.the-variants.{Accepted, Refused}
+use Rattle.settings.specs.Settings.{checkOf}
+use Rattle.symbols.specs.Symbols.{symbolsOf}
+use Rattle.symbols.proofs.CountLaws.{symbols-some}
+use Rattle.frame.specs.Points.{floatsOf}
+use Rattle.assembler.specs.Assembled.{byteOf}
+use Rattle.reader_state.specs.declared.state.OpenSettings.{OpenSettings}
+use Rattle.reader_state.specs.declared.state.StartAnswer.the-variants.{Refused as StartRefused}
+use Rattle.acceptance.specs.declared.accept.StepAnswer.{StepAnswer}
+use Rattle.acceptance.specs.declared.accept.StepAnswer.the-variants.{First, Next, BadPoint, Refused as StepRefused}
+use Rattle.reader_state.specs.State.{openRaw, startBy}
+use Rattle.reader.specs.Step.{stepNumber, stepSeed}
+use Rattle.reader_runs.specs.Sent.{settingsFor}
+use Rattle.reader_runs.proofs.Steps.{sound}
+use Rattle.reader_runs.proofs.Runs.{accepted-zero, run-takes, run-refused}
+use Rattle.reader_runs.proofs.Payloads.{byte-back}
+use Rattle.demands.specs.Demand2.{Begun, IsFrame}
+use Rattle.demands.proofs.Reading.{begun-ready}
+use Rattle.demands.proofs.Demand2.{gives-all, demand-2a}
+use Rattle.frame_reader.specs.declared.read.FrameAnswer.{FrameAnswer}
+use Rattle.frame_reader.specs.declared.read.FrameAnswer.the-variants.{Read, BadPoint as BadPointAt, BadSymbol, Refused as FrameRefused}
+use Rattle.frame_reader.specs.WholeFrame.{symbolAt, answerAt, memoryAt, firstRefused, refusedAs, symbolsAnswer, frameNoRoom, readFrameBy, readFrameOf, frameIntoBy, readFrameInto, frameNumber}
+use Rattle.frame_reader.specs.Statements.{RoomForFrame, GivesFrame, ReadsFrame, FrameRefusals}
+use Rattle.frame_reader.proofs.AnswerLaws.{answer-at, answer-read, none-refused}
+use Rattle.frame_reader.proofs.FrameLaws.{rooms, memory-whole}
+
+-- ---- with room the answer is the symbols'
+
+room-false : (o : OpenSettings) (floats bytes : ℕ) → RoomForFrame o floats bytes → frameNoRoom (settingsFor o) floats bytes ≡ false
+room-false o floats bytes room =
+    simp (le-ltb floats (symbolsOf (settingsFor o) * floatsOf (settingsFor o)) (room .0), le-ltb bytes (o .length) (room .1))
+
+answer-by : (o : OpenSettings) → Begun o → (points : List Float) (bytes : ℕ) (t : Bool) → frameNoRoom (settingsFor o) (length points) bytes ≡ t
+    → readFrameOf o points bytes ≡ cond t (FrameRefused Room) (symbolsAnswer o points bytes)
+answer-by o begun points bytes t e =
+    ap (λ (x : Checked). readFrameBy x o points bytes) (begun-ready o begun)
+    ∙ ap (λ (b : Bool). cond b (FrameRefused Room) (symbolsAnswer o points bytes)) e
+
+-- a payload is the bytes that its bits write
+own-bytes : (o : OpenSettings) (seed : ℕ) (p : List ℕ) → IsFrame o seed p → firsts (byteOf (payloadBit p)) (o .length) ≡ p
+own-bytes o seed p (some, (most, (long, small))) =
+    ext-getD 0 _ p (length-firsts (byteOf (payloadBit p)) (o .length) ∙ sym long)
+    (λ j l.
+    let h : j < o .length = omega (arith, l, length-firsts (byteOf (payloadBit p)) (o .length)) in
+    getD-firsts 0 (byteOf (payloadBit p)) (o .length) j h ∙ byte-back p j (small j (omega (arith, h, long))))
+
+module _ (o : OpenSettings) (points : List Float) (payload : List ℕ) (begun : Begun o) (room : RoomForFrame o (length points) (length payload)) where
+  ready : checkOf (openRaw o) ≡ Accepted (settingsFor o)
+  ready = begun-ready o begun
+
+  abbrev S : ℕ → List Float
+  S = symbolAt (settingsFor o) points
+
+  abbrev count : ℕ
+  count = symbolsOf (settingsFor o)
+
+  some-symbol : 0 < count
+  some-symbol = symbols-some (settingsFor o) (sound o ready)
+
+  answer-is : readFrameOf o points (length payload) ≡ symbolsAnswer o points (length payload)
+  answer-is = answer-by o begun points (length payload) false (room-false o (length points) (length payload) room)
+
+  -- a frame that gives the symbols is read
+  module _ (seed : ℕ) (p : List ℕ) (frame : IsFrame o seed p) (gives : GivesFrame o seed p points) where
+    answers : (n : ℕ) → n < count → answerAt o points (length payload) n ≡ cond (eqb n 0) (First seed) Next
+    answers n l =
+        run-takes o ready S (λ k. length payload) count (omega arith) (rooms o ready points (room .0) (length payload) (room .1) count (omega arith))
+        (gives-all o ready S count (omega arith) seed p frame gives) n l
+
+    pub frame-read : readFrameOf o points (length payload) ≡ Read seed
+    frame-read =
+        answer-is
+        ∙ answer-read o points (length payload) (λ n l. ap stepNumber (answers n l) ∙ accepted-zero (eqb n 0) seed)
+        ∙ ap (λ (a : StepAnswer). Read (stepSeed a)) (answers 0 some-symbol)
+
+    pub frame-left : readFrameInto o points payload ≡ p ++ drop (o .length) payload
+    frame-left =
+        ap (λ (r : FrameAnswer). frameIntoBy r (memoryAt o points count payload) payload) frame-read
+        ∙ fill-list 0 (byteOf (payloadBit p)) (o .length) payload (memoryAt o points count payload) (room .1)
+        (memory-whole o ready points (room .0) (gives-all o ready S count (omega arith) seed p frame gives) payload (room .1))
+        ∙ ap (λ (l : List ℕ). l ++ drop (o .length) payload) (own-bytes o seed p frame)
+
+  -- and a frame that is read is given by one
+  pub frame-given : (seed : ℕ) → readFrameOf o points (length payload) ≡ Read seed → (seed′ : ℕ) × ((p : List ℕ) × (IsFrame o seed′ p × GivesFrame o seed′ p points))
+  frame-given seed e =
+      let all = none-refused o points (length payload) seed (sym answer-is ∙ e) in
+      let fill = rooms o ready points (room .0) (length payload) (room .1) count (omega arith) in
+      let g = demand-2a o S (λ k. payload) (count - 1) begun (omega (arith, some-symbol)) (λ n l. fill n (omega (arith, l, some-symbol))) .0
+      (λ n l. all n (omega (arith, l, some-symbol))) in
+      (g .0, (g .1 .0, (g .1 .1 .0, λ n l. g .1 .1 .1 n (omega (arith, l)))))
+
+-- an answer that is no seed writes nothing
+pub unread : (r : FrameAnswer) (read payload : List ℕ) → ((seed : ℕ) → r ≡ Read seed → ⊥) → frameIntoBy r read payload ≡ payload
+unread (Read seed) read payload n = absurd (n seed refl)
+unread (BadPointAt m i z) read payload n = refl
+unread (BadSymbol m r) read payload n = refl
+unread (FrameRefused r) read payload n = refl
+
+-- demand 2 of the slices
+pub reads-frame : (o : OpenSettings) (points : List Float) (payload : List ℕ) → ReadsFrame o points (readFrameOf o points (length payload)) payload (readFrameInto o points payload)
+reads-frame o points payload = (
+  λ begun room. (
+    (
+      λ (seed, e). frame-given o points payload begun room seed e,
+      λ (seed, (p, (frame, gives))). (seed, frame-read o points payload begun room seed p frame gives),
+    ),
+    λ seed p frame gives. (frame-read o points payload begun room seed p frame gives, frame-left o points payload begun room seed p frame gives),
+  ),
+  unread (readFrameOf o points (length payload)) (memoryAt o points (symbolsOf (settingsFor o)) payload) payload,
+)
+
+-- ---- refusals
+
+-- a symbol's refusal is no refusal of the frame's settings or room
+symbol-not-frame : (n : ℕ) (a : StepAnswer) (e : Refusal) → refusedAs n a ≡ FrameRefused e → ⊥
+symbol-not-frame n (First seed) e g = let z : _≡_ {A = ℕ} 0 1 = cc in omega arith
+symbol-not-frame n Next e g = let z : _≡_ {A = ℕ} 0 1 = cc in omega arith
+symbol-not-frame n (BadPoint i z) e g = let w : _≡_ {A = ℕ} 0 1 = cc in omega arith
+symbol-not-frame n (StepRefused r) e g = let z : _≡_ {A = ℕ} 0 1 = cc in omega arith
+
+read-not-refused : (t : Bool) (n seed : ℕ) (a : StepAnswer) (e : Refusal) → cond t (refusedAs n a) (Read seed) ≡ FrameRefused e → ⊥
+read-not-refused true n seed a e g = symbol-not-frame n a e g
+read-not-refused false n seed a e g = let z : _≡_ {A = ℕ} 0 1 = cc in omega arith
+
+-- the number of a refused symbol
+symbol-number : (n : ℕ) (a : StepAnswer) → (stepNumber a ≡ 0 → ⊥) → frameNumber (refusedAs n a) ≡ stepNumber a
+symbol-number n (First seed) r = absurd (r refl)
+symbol-number n Next r = absurd (r refl)
+symbol-number n (BadPoint i z) r = refl
+symbol-number n (StepRefused e) r = refl
+
+abbrev startRefusal : Checked → OpenSettings → (points : List Float) (bytes : ℕ) → Type 0
+startRefusal x o points bytes = (e : Refusal) → startBy x o .answer ≡ StartRefused e → readFrameBy x o points bytes ≡ FrameRefused e
+
+start-refused : (x : Checked) (o : OpenSettings) (points : List Float) (bytes : ℕ) → startRefusal x o points bytes
+start-refused (Accepted s) o points bytes e g = let z : _≡_ {A = ℕ} 0 1 = cc in absurd (omega arith)
+start-refused (Refused r) o points bytes e g = let same : r ≡ e = cc in ap FrameRefused same
+
+room-or-not : (o : OpenSettings) (floats bytes : ℕ) → frameNoRoom (settingsFor o) floats bytes ≡ false → RoomForFrame o floats bytes
+room-or-not o floats bytes e =
+    let f = or-false (ltb floats (symbolsOf (settingsFor o) * floatsOf (settingsFor o))) (ltb bytes (o .length)) e in
+    (ltb-false floats (symbolsOf (settingsFor o) * floatsOf (settingsFor o)) (f .0), ltb-false bytes (o .length) (f .1))
+
+pub frame-refusals : FrameRefusals
+frame-refusals o points bytes = (
+  start-refused (checkOf (openRaw o)) o points bytes,
+  λ begun. (
+    (
+      λ e room. read-not-refused (ltb (firstRefused o points bytes) (symbolsOf (settingsFor o))) (firstRefused o points bytes) (stepSeed (answerAt o points bytes 0))
+          (answerAt o points bytes (firstRefused o points bytes)) Room (sym (answer-by o begun points bytes false (room-false o (length points) bytes room)) ∙ e),
+      λ none. short begun (frameNoRoom (settingsFor o) (length points) bytes) refl none,
+    ),
+    named begun,
+  ),
+)
+  where
+    short : Begun o → (t : Bool) → frameNoRoom (settingsFor o) (length points) bytes ≡ t → (RoomForFrame o (length points) bytes → ⊥) → readFrameOf o points bytes ≡ FrameRefused Room
+    short begun true e none = answer-by o begun points bytes true e
+    short begun false e none = absurd (none (room-or-not o (length points) bytes e))
+
+    named : Begun o → RoomForFrame o (length points) bytes → (n : ℕ) → n < symbolsOf (settingsFor o)
+        → ((k : ℕ) → k < n → stepNumber (answerAt o points bytes k) ≡ 0) → (stepNumber (answerAt o points bytes n) ≡ 0 → ⊥)
+        → (readFrameOf o points bytes ≡ refusedAs n (answerAt o points bytes n))
+        × ((frameNumber (readFrameOf o points bytes) ≡ 9) ⊎ ((frameNumber (readFrameOf o points bytes) ≡ 10) ⊎ (frameNumber (readFrameOf o points bytes) ≡ 11)))
+    named begun room n l accepted refused =
+        let ready = begun-ready o begun in
+        let is = answer-by o begun points bytes false (room-false o (length points) bytes room) ∙ answer-at o points bytes n l accepted refused in
+        let number = ap frameNumber is ∙ symbol-number n (answerAt o points bytes n) refused in (
+          is,
+          subst (λ (k : ℕ). (k ≡ 9) ⊎ ((k ≡ 10) ⊎ (k ≡ 11))) (sym number)
+              (run-refused o ready (symbolAt (settingsFor o) points) (λ k. bytes) n l (rooms o ready points (room .0) bytes (room .1) (n + 1) (omega (arith, l))) accepted refused),
+        )

@@ -1,0 +1,12 @@
+-- The reading of a whole frame as one number (docs/C-API.md): the seed, or the refusal's number negated.
+use lib.IntN.{ℤ, pos}
+use Rattle.settings.specs.declared.settings.Refusal.the-variants.{Point}
+use Rattle.conversions.specs.Results.{refusedResult}
+use Rattle.frame_reader.specs.declared.read.FrameAnswer.{FrameAnswer}
+use Rattle.frame_reader.specs.declared.read.FrameAnswer.the-variants.{Read, BadPoint, BadSymbol, Refused}
+
+abbrev pub frameResult : FrameAnswer → ℤ
+frameResult (Read seed) = pos seed
+frameResult (BadPoint n i z) = refusedResult Point
+frameResult (BadSymbol n r) = refusedResult r
+frameResult (Refused r) = refusedResult r

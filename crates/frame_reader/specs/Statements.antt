@@ -1,0 +1,46 @@
+-- What is proved of the whole frame's reading: demand 2 of its slices, and its refusals in their order. The terms are in proofs/Exactly.
+use mathlib.Core.Path.{_≡_}
+use mathlib.Core.List.{List, _++_}
+use mathlib.Core.Logic.{_↔_, _⊎_}
+use Prim.Native.Nat.{ℕ, _*_, _<_, _≤_}
+use lib.ListN.{length, drop}
+use lib.Ieee.{Float}
+use Rattle.settings.specs.declared.settings.Refusal.{Refusal}
+use Rattle.settings.specs.declared.settings.Refusal.the-variants.{Room}
+use Rattle.symbols.specs.Symbols.{symbolsOf}
+use Rattle.frame.specs.Points.{floatsOf}
+use Rattle.reader_state.specs.declared.state.OpenSettings.{OpenSettings}
+use Rattle.reader_state.specs.declared.state.StartAnswer.the-variants.{Refused as StartRefused}
+use Rattle.reader_state.specs.State.{startOf}
+use Rattle.reader_runs.specs.Sent.{settingsFor}
+use Rattle.demands.specs.Demand2.{Begun, IsFrame, GivesSymbol, Accepts}
+use Rattle.frame_reader.specs.declared.read.FrameAnswer.{FrameAnswer}
+use Rattle.frame_reader.specs.declared.read.FrameAnswer.the-variants.{Read, Refused as FrameRefused}
+use Rattle.frame_reader.specs.WholeFrame.{symbolAt, answerAt, refusedAs, readFrameOf, frameNumber}
+
+-- room for every symbol's points, and for the payload
+abbrev pub RoomForFrame : (o : OpenSettings) (floats bytes : ℕ) → Type 0
+RoomForFrame o floats bytes = (symbolsOf (settingsFor o) * floatsOf (settingsFor o) ≤ floats) × (o .length ≤ bytes)
+
+-- a payload and seed give every symbol of the slice
+abbrev pub GivesFrame : (o : OpenSettings) (seed : ℕ) (p : List ℕ) (points : List Float) → Type 0
+GivesFrame o seed p points = (n : ℕ) → n < symbolsOf (settingsFor o) → GivesSymbol o seed p n (symbolAt (settingsFor o) points n)
+
+-- demand 2 of the slices: the frame is read "exactly when some payload and seed give" its symbols, the answer has that seed and the lent payload that
+-- payload, the bytes past it as they were; and where the frame is not read nothing is written
+abbrev pub ReadsFrame : (o : OpenSettings) (points : List Float) (r : FrameAnswer) (payload payload′ : List ℕ) → Type 0
+ReadsFrame o points r payload payload′ =
+    (Begun o → RoomForFrame o (length points) (length payload)
+    → (((seed : ℕ) × (r ≡ Read seed)) ↔ ((seed : ℕ) × ((p : List ℕ) × (IsFrame o seed p × GivesFrame o seed p points))))
+    × ((seed : ℕ) (p : List ℕ) → IsFrame o seed p → GivesFrame o seed p points → (r ≡ Read seed) × (payload′ ≡ p ++ drop (o .length) payload)))
+    × (((seed : ℕ) → r ≡ Read seed → ⊥) → payload′ ≡ payload)
+
+-- the settings' refusals, then 8, then 9, 10 or 11 of the first symbol that is refused, with its number
+abbrev pub FrameRefusals : Type 0
+FrameRefusals = (o : OpenSettings) (points : List Float) (bytes : ℕ) → let r = readFrameOf o points bytes in
+    ((e : Refusal) → startOf o .answer ≡ StartRefused e → r ≡ FrameRefused e)
+    × (Begun o
+    → ((r ≡ FrameRefused Room) ↔ (RoomForFrame o (length points) bytes → ⊥))
+    × (RoomForFrame o (length points) bytes → (n : ℕ) → n < symbolsOf (settingsFor o)
+    → ((k : ℕ) → k < n → Accepts (answerAt o points bytes k)) → (Accepts (answerAt o points bytes n) → ⊥)
+    → (r ≡ refusedAs n (answerAt o points bytes n)) × ((frameNumber r ≡ 9) ⊎ ((frameNumber r ≡ 10) ⊎ (frameNumber r ≡ 11)))))
