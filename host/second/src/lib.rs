@@ -27,6 +27,7 @@
 //! - `reader`: the strict reader, its start and its step, refusals 12, 8 and 11
 //! - `point_tables`: refusal 9, the points that the rules give
 //! - `code_search`: refusal 10, the encoder inputs that give the coded bits
+//! - `whole_frame`: the strict reader over all symbols of a frame in one slice
 
 #![forbid(unsafe_code)]
 
@@ -53,6 +54,7 @@ mod samples;
 pub mod scrambler;
 pub mod settings;
 pub mod sig;
+pub mod whole_frame;
 
 pub use carriers::{data_subcarriers, pilot_subcarriers, question_range, used_subcarriers};
 pub use chain::{
@@ -79,3 +81,4 @@ pub use reader::{reader_place, reader_start, reader_step, Answer, OpenSettings, 
 pub use scrambler::{register, scramble, scrambler_sequence, Register};
 pub use settings::{check, Settings};
 pub use sig::{sig_read, sig_write, SigFields};
+pub use whole_frame::{read_frame, FrameAnswer};

@@ -160,7 +160,7 @@ pub fn reader_place(
 }
 
 /// The settings with a seed that is accepted; no answer depends on which.
-fn with_some_seed(s: &OpenSettings) -> Settings {
+pub(crate) fn with_some_seed(s: &OpenSettings) -> Settings {
     Settings {
         width: s.width,
         mcs: s.mcs,
