@@ -1,5 +1,6 @@
 //! What several modules' tests are written with.
 
+use crate::reader::OpenSettings;
 use crate::settings::Settings;
 
 /// Bits from text; spaces only separate.
@@ -47,4 +48,27 @@ pub fn settings(mcs: u32, width: u32, length: u32, seed: u32) -> Settings {
         aggregation: false,
         short_guard: false,
     }
+}
+
+/// The same settings without their seed.
+pub fn open(s: &Settings) -> OpenSettings {
+    OpenSettings {
+        width: s.width,
+        mcs: s.mcs,
+        format: s.format,
+        length: s.length,
+        smoothing: s.smoothing,
+        not_sounding: s.not_sounding,
+        aggregation: s.aggregation,
+        short_guard: s.short_guard,
+    }
+}
+
+/// Byte j is 37·j + 11 modulo 256.
+pub fn some_bytes(count: u32) -> Vec<u8> {
+    (0..count).map(|j| ((37 * j + 11) % 256) as u8).collect()
+}
+
+pub fn float_bits(floats: &[f32]) -> Vec<u32> {
+    floats.iter().map(|f| f.to_bits()).collect()
 }

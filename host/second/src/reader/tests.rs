@@ -15,7 +15,7 @@ use crate::point_tables::data_table;
 use crate::points::{float, frame_points, points, turned};
 use crate::puncture::puncture;
 use crate::rates::{bits_per_carrier, rate, streams};
-use crate::samples::{all_wrong, other_format_and_flags, settings};
+use crate::samples::{all_wrong, float_bits, open, other_format_and_flags, settings, some_bytes};
 
 const ACCEPTED: Answer = Answer::Accepted { seed: 0 };
 
@@ -37,34 +37,12 @@ impl Chance {
     }
 }
 
-/// Byte j is 37·j + 11 modulo 256.
-fn some_bytes(count: u32) -> Vec<u8> {
-    (0..count).map(|j| ((37 * j + 11) % 256) as u8).collect()
-}
-
-fn open(s: &Settings) -> OpenSettings {
-    OpenSettings {
-        width: s.width,
-        mcs: s.mcs,
-        format: s.format,
-        length: s.length,
-        smoothing: s.smoothing,
-        not_sounding: s.not_sounding,
-        aggregation: s.aggregation,
-        short_guard: s.short_guard,
-    }
-}
-
 fn start(s: &Settings) -> State {
     reader_start(&open(s)).unwrap()
 }
 
 fn symbols(s: &Settings) -> u64 {
     u64::from(symbol_count(s).unwrap())
-}
-
-fn float_bits(floats: &[f32]) -> Vec<u32> {
-    floats.iter().map(|f| f.to_bits()).collect()
 }
 
 /// A step, with what holds of every one: a refusal writes nothing, 8 and 12
