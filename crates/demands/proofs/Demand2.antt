@@ -8,12 +8,9 @@ use native.Mathlib.Omega.{arith}
 use borrow.Author.Tests.{eq-eqb}
 use lib.Dec.{eqb}
 use lib.ListN.{length, getD, take, drop}
-use lib.Seq.{ext-getD, getD-take, length-take-le}
+use lib.Seq.{ext-getD}
 use lib.Ieee.{Float, binary32, toBits}
-use Rattle.laws.specs.Bytes.{AreBytes}
-use Rattle.laws.specs.Firsts.{firsts}
-use Rattle.laws.proofs.Filling.{fill-end}
-use Rattle.laws.proofs.Firsts.{length-firsts, getD-firsts, fill-list}
+use Rattle.laws.proofs.Firsts.{length-firsts, fill-list}
 use Rattle.laws.proofs.Search.{parts}
 use Rattle.chain.specs.DataBits.{payloadBit}
 use Rattle.chain.proofs.InputLaws.{payload-bit}
@@ -37,8 +34,8 @@ use Rattle.reader_runs.specs.Run.{stateBefore, answerTo, sliceAfter, memoryBefo
 use Rattle.reader_runs.specs.Sent.{settingsFor, withSeed, FloatsSent, stateAfter, SentBy, Rooms}
 use Rattle.reader_runs.proofs.Steps.{sound, step-gives, step-agrees}
 use Rattle.reader_runs.proofs.Runs.{accepted-zero, floats-agree, run-state, run-takes, run-gives}
-use Rattle.reader_runs.proofs.Memory.{bytesBefore, bytes-all, slice-filled, memory-filled}
-use Rattle.reader_runs.proofs.Payloads.{byte-back, payloadOf, payload-small, payload-bits, sent-payload, payload-sent}
+use Rattle.reader_runs.proofs.Memory.{bytesBefore, bytes-all, slice-filled, memory-whole}
+use Rattle.reader_runs.proofs.Payloads.{byte-back, first-bytes, payloadOf, payload-small, payload-bits, sent-payload, payload-sent}
 use Rattle.reader_runs.proofs.Unique.{seed-told, bytes-told}
 use Rattle.reader_runs.proofs.Endings.{ended-step, ended-slice, ended-by, stays-from}
 use Rattle.demands.specs.Frames.{WholePayload}
@@ -241,14 +238,6 @@ demand-2e = (steps-exactly, states-lead)
 
 -- ---- (f)
 
--- the bytes that payload bits write are the payload's first
-first-bytes : (p : List ℕ) (bytes : ℕ) → bytes ≤ length p → AreBytes p → firsts (byteOf (payloadBit p)) bytes ≡ take bytes p
-first-bytes p bytes whole small =
-    ext-getD 0 _ _ (length-firsts (byteOf (payloadBit p)) bytes ∙ sym (length-take-le bytes p whole))
-    (λ j l.
-    let h : j < bytes = omega (arith, l, length-firsts (byteOf (payloadBit p)) bytes) in
-    getD-firsts 0 (byteOf (payloadBit p)) bytes j h ∙ byte-back p j (small j (omega (arith, h, whole))) ∙ sym (getD-take bytes p j 0 h))
-
 module _ (a : RawSettings) (accepted : checkOf a ≡ Accepted (settingsOf a)) (p : List ℕ) (whole : WholePayload a p) (out : ℕ → List Float)
     (slice : List ℕ) (enough : a .length ≤ length slice) where
   abbrev o : OpenSettings
@@ -282,8 +271,7 @@ module _ (a : RawSettings) (accepted : checkOf a ≡ Accepted (settingsOf a)) (p
     read-bytes : memoryBefore o S (λ k. length slice) (symbolsOf (settingsFor o)) slice ≡ take (a .length) p ++ drop (a .length) slice
     read-bytes =
         fill-list 0 (byteOf (payloadBit p)) (a .length) slice _ enough
-        (fill-end 0 0 (byteOf (payloadBit p)) (bytes-all (settingsFor o) (sound o ready))
-        (memory-filled o ready S (λ k. length slice) (symbolsOf (settingsFor o)) (omega arith) rooms read slice enough (symbolsOf (settingsFor o)) (omega arith)))
+        (memory-whole o ready S (λ k. length slice) rooms read slice enough)
         ∙ ap (λ (l : List ℕ). l ++ drop (a .length) slice) (first-bytes p (a .length) (whole .0) (whole .1))
 
 -- what is said of the settings that raw settings mean

@@ -1,5 +1,5 @@
 -- The whole frame's reading from its symbols': bytes read apart and copied, and the public call's cases. Assumes nothing.
-use mathlib.Core.Path.{_≡_, _∙_, refl, sym, ap, subst}
+use mathlib.Core.Path.{_≡_, _∙_, sym, ap, subst}
 use mathlib.Core.Bool.{Bool, true, false, cond, _||_}
 use mathlib.Core.List.{List}
 use Prim.Native.Nat.{ℕ, _*_, _≤_}
@@ -14,7 +14,7 @@ use Rattle.laws.proofs.Reflect.{or-false}
 use Rattle.settings.specs.declared.settings.Refusal.the-variants.{Room}
 use Rattle.settings.specs.declared.settings.Settings.{Settings}
 use Rattle.settings.specs.declared.settings.Checked.{Checked}
-use Rattle.settings.specs.declared.settings.Checked.the-variants.{Accepted, Refused}
+use Rattle.settings.specs.declared.settings.Checked.the-variants.{Accepted}
 use Rattle.settings.specs.Settings.{checkOf, Right}
 use Rattle.settings.proofs.SettingsLaws.{right, passed}
 use Rattle.symbols.specs.Symbols.{symbolsOf}
@@ -22,8 +22,9 @@ use Rattle.symbols.proofs.CountLaws.{symbols-few}
 use Rattle.frame.specs.Points.{floatsOf}
 use Rattle.reader_state.specs.declared.state.OpenSettings.{OpenSettings}
 use Rattle.reader_state.specs.declared.state.Reader.{Reader}
-use Rattle.reader_state.specs.State.{openRaw, startBy, startOf}
+use Rattle.reader_state.specs.State.{openRaw, startOf}
 use Rattle.reader_runs.specs.Sent.{settingsFor}
+use Rattle.reader_runs.proofs.Endings.{start-kept}
 use Rattle.frame_reader.specs.declared.read.FrameAnswer.{FrameAnswer}
 use Rattle.frame_reader.specs.declared.read.FrameAnswer.the-variants.{Read, Refused as FrameRefused}
 use Rattle.frame_reader.specs.WholeFrame.{memoryAt, symbolsAnswer, frameNoRoom, readFrameBy, readFrameOf, frameIntoBy, readFrameInto}
@@ -110,11 +111,6 @@ frame-as o points payload x e r payload′ g h =
     let left : payload′ ≡ readFrameInto o points payload = h ∙ ap (λ (a : FrameAnswer). frameIntoBy a (memoryAt o points (symbolsOf (settingsFor o)) payload) payload) answer in
     (answer, (left, rw (answer, left) (reads-frame o points payload)))
 
--- a started reader holds the settings
-started-settings : (x : Checked) (o : OpenSettings) → startBy x o .state .settings ≡ o
-started-settings (Accepted s) o = refl
-started-settings (Refused r) o = refl
-
 pub product-few : (s : Settings) → Right s → (count floats : ℕ) → count ≡ symbolsOf s → floats ≤ 912 → count * floats ≤ 18391392
 product-few s r count floats c f = mul-le-mul {n₁ = count} {m₁ = floats} {n₂ = 20166} {m₂ = 912} (omega (arith, symbols-few s r)) f
 
@@ -133,7 +129,7 @@ module _ (s : Settings) (o : OpenSettings) (accepted : Accepted s ≡ checkOf (o
 
   module _ (e : small ≡ false) (begun : Reader) (is : begun ≡ startOf o .state) where
     settings-are : begun .settings ≡ o
-    settings-are = ap (λ (r : Reader). r .settings) is ∙ started-settings (checkOf (openRaw o)) o
+    settings-are = ap (λ (r : Reader). r .settings) is ∙ start-kept (checkOf (openRaw o)) o
 
     pub frame-asked : FrameAsked s begun points payload
     frame-asked =

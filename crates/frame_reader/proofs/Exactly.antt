@@ -7,11 +7,11 @@ use Prim.Native.Nat.{ℕ, _+_, _-_, _*_, _<_}
 use native.Mathlib.Omega.{arith}
 use borrow.Author.Tests.{le-ltb, ltb-false}
 use lib.Dec.{eqb, ltb}
-use lib.ListN.{length, drop}
-use lib.Seq.{ext-getD}
+use lib.ListN.{length, take, drop}
+use lib.Seq.{take-length}
 use lib.Ieee.{Float}
 use Rattle.laws.specs.Firsts.{firsts}
-use Rattle.laws.proofs.Firsts.{length-firsts, getD-firsts, fill-list}
+use Rattle.laws.proofs.Firsts.{fill-list}
 use Rattle.laws.proofs.Reflect.{or-false}
 use Rattle.chain.specs.DataBits.{payloadBit}
 use Rattle.settings.specs.declared.settings.Refusal.{Refusal}
@@ -32,7 +32,7 @@ use Rattle.reader.specs.Step.{stepNumber, stepSeed}
 use Rattle.reader_runs.specs.Sent.{settingsFor}
 use Rattle.reader_runs.proofs.Steps.{sound}
 use Rattle.reader_runs.proofs.Runs.{accepted-zero, run-takes, run-refused}
-use Rattle.reader_runs.proofs.Payloads.{byte-back}
+use Rattle.reader_runs.proofs.Payloads.{first-bytes}
 use Rattle.demands.specs.Demand2.{Begun, IsFrame}
 use Rattle.demands.proofs.Reading.{begun-ready}
 use Rattle.demands.proofs.Demand2.{gives-all, demand-2a}
@@ -41,7 +41,7 @@ use Rattle.frame_reader.specs.declared.read.FrameAnswer.the-variants.{Re
 use Rattle.frame_reader.specs.WholeFrame.{symbolAt, answerAt, memoryAt, firstRefused, refusedAs, symbolsAnswer, frameNoRoom, readFrameBy, readFrameOf, frameIntoBy, readFrameInto, frameNumber}
 use Rattle.frame_reader.specs.Statements.{RoomForFrame, GivesFrame, ReadsFrame, FrameRefusals}
 use Rattle.frame_reader.proofs.AnswerLaws.{answer-at, answer-read, none-refused}
-use Rattle.frame_reader.proofs.FrameLaws.{rooms, memory-whole}
+use Rattle.frame_reader.proofs.FrameLaws.{rooms, payload-read}
 
 -- ---- with room the answer is the symbols'
 
@@ -58,10 +58,7 @@ answer-by o begun points bytes t e =
 -- a payload is the bytes that its bits write
 own-bytes : (o : OpenSettings) (seed : ℕ) (p : List ℕ) → IsFrame o seed p → firsts (byteOf (payloadBit p)) (o .length) ≡ p
 own-bytes o seed p (some, (most, (long, small))) =
-    ext-getD 0 _ p (length-firsts (byteOf (payloadBit p)) (o .length) ∙ sym long)
-    (λ j l.
-    let h : j < o .length = omega (arith, l, length-firsts (byteOf (payloadBit p)) (o .length)) in
-    getD-firsts 0 (byteOf (payloadBit p)) (o .length) j h ∙ byte-back p j (small j (omega (arith, h, long))))
+    first-bytes p (o .length) (omega (arith, long)) small ∙ ap (λ (k : ℕ). take k p) (sym long) ∙ take-length p
 
 module _ (o : OpenSettings) (points : List Float) (payload : List ℕ) (begun : Begun o) (room : RoomForFrame o (length points) (length payload)) where
   ready : checkOf (openRaw o) ≡ Accepted (settingsFor o)
@@ -96,7 +93,7 @@ module _ (o : OpenSettings) (points : List Float) (payload : List ℕ) (begun : 
     frame-left =
         ap (λ (r : FrameAnswer). frameIntoBy r (memoryAt o points count payload) payload) frame-read
         ∙ fill-list 0 (byteOf (payloadBit p)) (o .length) payload (memoryAt o points count payload) (room .1)
-        (memory-whole o ready points (room .0) (gives-all o ready S count (omega arith) seed p frame gives) payload (room .1))
+        (payload-read o ready points (room .0) (gives-all o ready S count (omega arith) seed p frame gives) payload (room .1))
         ∙ ap (λ (l : List ℕ). l ++ drop (o .length) payload) (own-bytes o seed p frame)
 
   -- and a frame that is read is given by one

@@ -10,7 +10,7 @@ use lib.ListN.{length, getD, length-drop}
 use lib.Ieee.{Float}
 use Rattle.laws.specs.Filled.{Filled}
 use Rattle.laws.specs.Least.{firstFrom}
-use Rattle.laws.proofs.Filling.{fill-at, fill-as, fill-end}
+use Rattle.laws.proofs.Filling.{fill-at, fill-as}
 use Rattle.laws.proofs.Firsts.{fill-only}
 use Rattle.settings.specs.declared.settings.Settings.{Settings}
 use Rattle.settings.specs.declared.settings.Checked.the-variants.{Accepted}
@@ -24,9 +24,8 @@ use Rattle.acceptance.specs.declared.accept.StepAnswer.the-variants.{First, Nex
 use Rattle.reader_state.specs.State.{openRaw}
 use Rattle.reader.specs.Step.{stepNumber, stepSeed}
 use Rattle.reader_runs.specs.Sent.{settingsFor, SentBy, Rooms}
-use Rattle.reader_runs.proofs.Steps.{sound}
 use Rattle.reader_runs.proofs.Runs.{run-gives, run-takes}
-use Rattle.reader_runs.proofs.Memory.{bytes-all, memory-filled}
+use Rattle.reader_runs.proofs.Memory.{memory-whole}
 use Rattle.reader_runs.proofs.Endings.{answers-room}
 use Rattle.frame_reader.specs.declared.read.FrameAnswer.the-variants.{Read}
 use Rattle.frame_reader.specs.WholeFrame.{symbolAt, answerAt, memoryAt, firstRefused, refusedAs, symbolsAnswer}
@@ -65,11 +64,9 @@ module _ (o : OpenSettings) (ready : checkOf (openRaw o) ≡ Accepted (settingsF
       (f .seed, run-takes o ready S (λ k. bytes) (n + 1) few room f n (omega arith))
 
   -- the whole payload in a slice that every step was lent
-  pub memory-whole : (f : SentBy (settingsFor o) (symbolAt (settingsFor o) points) (symbolsOf (settingsFor o))) (payload : List ℕ) → o .length ≤ length payload
+  pub payload-read : (f : SentBy (settingsFor o) (symbolAt (settingsFor o) points) (symbolsOf (settingsFor o))) (payload : List ℕ) → o .length ≤ length payload
       → Filled 0 0 (byteOf (f .v)) (o .length) payload (memoryAt o points (symbolsOf (settingsFor o)) payload)
-  memory-whole f payload h =
-      fill-end 0 0 (byteOf (f .v)) (bytes-all s (sound o ready))
-      (memory-filled o ready S (λ k. length payload) (symbolsOf s) (omega arith) (rooms (length payload) h (symbolsOf s) (omega arith)) f payload h (symbolsOf s) (omega arith))
+  payload-read f payload h = memory-whole o ready S (λ k. length payload) (rooms (length payload) h (symbolsOf s) (omega arith)) f payload h
 
   -- bytes read apart and then copied are those that the steps leave in the payload itself
   pub copied : (apart payload payload′ : List ℕ) → o .length ≤ length apart → o .length ≤ length payload
@@ -79,5 +76,5 @@ module _ (o : OpenSettings) (ready : checkOf (openRaw o) ≡ Accepted (settingsF
   copied apart payload payload′ h h′ accepted filled =
       let f = run-gives o ready S (λ k. length apart) (symbolsOf s) (omega arith) (rooms (length apart) h (symbolsOf s) (omega arith)) accepted in
       fill-only 0 0 (byteOf (f .v)) (o .length) payload payload′ _
-      (fill-as 0 0 _ (byteOf (f .v)) (o .length) payload payload′ (λ i l. fill-at 0 (byteOf (f .v)) (memory-whole f apart h) i l) filled)
-      (memory-whole f payload h′)
+      (fill-as 0 0 _ (byteOf (f .v)) (o .length) payload payload′ (λ i l. fill-at 0 (byteOf (f .v)) (payload-read f apart h) i l) filled)
+      (payload-read f payload h′)

@@ -97,7 +97,7 @@ step-kept st points bytes =
     (λ e. ap (λ (r : Stepped). r .state .settings) e)
     (reach st points bytes)
 
-start-kept : (x : Checked) (o : OpenSettings) → startBy x o .state .settings ≡ o
+pub start-kept : (x : Checked) (o : OpenSettings) → startBy x o .state .settings ≡ o
 start-kept (Accepted s) o = refl
 start-kept (Refused r) o = refl
 

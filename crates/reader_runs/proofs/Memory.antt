@@ -22,6 +22,7 @@ use Rattle.reader_state.specs.State.{openRaw}
 use Rattle.acceptance.specs.Accepted.{bitsBefore}
 use Rattle.reader_runs.specs.Run.{sliceAfter, memoryBefore}
 use Rattle.reader_runs.specs.Sent.{settingsFor, SentBy, Rooms}
+use Rattle.reader_runs.proofs.Steps.{sound}
 use Rattle.reader_runs.proofs.Runs.{run-writes}
 
 -- bytes of a frame that are complete before symbol n
@@ -77,3 +78,12 @@ module _ (o : OpenSettings) (ready : checkOf (openRaw o) ≡ Accepted (settingsF
       fill-end 0 0 (byteOf (f .v)) (part-ends (bytesBefore s n) (bytesBefore s (n + 1)) (bytes-more s n) ∙ ap (bytesBefore s) (add-one n))
       (fill-join 0 0 (byteOf (f .v)) (bytesBefore s n) (bytesBefore s (n + 1) - bytesBefore s n) slice before _ p
       (fill-from 0 (λ k. byteOf (f .v) (bytesBefore s n + k)) {a = bytesBefore s n} {b = 0 + bytesBefore s n} (omega arith) q))
+
+-- after the last symbol it holds the whole payload
+pub memory-whole : (o : OpenSettings) (ready : checkOf (openRaw o) ≡ Accepted (settingsFor o)) (S : ℕ → List Float) (bytes : ℕ → ℕ)
+    → Rooms (settingsFor o) S bytes (symbolsOf (settingsFor o)) → (f : SentBy (settingsFor o) S (symbolsOf (settingsFor o)))
+    → (slice : List ℕ) → settingsFor o .length ≤ length slice
+    → Filled 0 0 (byteOf (f .v)) (settingsFor o .length) slice (memoryBefore o S bytes (symbolsOf (settingsFor o)) slice)
+memory-whole o ready S bytes rooms f slice whole =
+    fill-end 0 0 (byteOf (f .v)) (bytes-all (settingsFor o) (sound o ready))
+    (memory-filled o ready S bytes (symbolsOf (settingsFor o)) (omega arith) rooms f slice whole (symbolsOf (settingsFor o)) (omega arith))

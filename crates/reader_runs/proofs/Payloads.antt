@@ -1,9 +1,10 @@
 -- Payload bytes and their bits: bytes are told by their bits, and the bits of a frame write a payload that gives the same symbols. Assumes nothing.
-use mathlib.Core.Path.{_≡_, _∙_, refl, ap}
+use mathlib.Core.Path.{_≡_, _∙_, refl, sym, ap}
 use mathlib.Core.List.{List}
 use Prim.Native.Nat.{ℕ, _+_, _*_, _/_, _%_, _^_, _<_, _≤_}
 use native.Mathlib.Omega.{arith}
-use lib.ListN.{length, getD}
+use lib.ListN.{length, getD, take}
+use lib.Seq.{ext-getD, getD-take, length-take-le}
 use lib.Ieee.{Float}
 use Rattle.laws.specs.Bytes.{AreBytes}
 use Rattle.laws.specs.Claim.{Claim, _is_, upTo, Holds, sound}
@@ -40,6 +41,14 @@ byte-back p j h =
     packed-as (payloadBit p) (λ b. getD p j 0 / 2 ^ b % 2) (8 * j) 0 8
     (λ k l. bit-of p j k l ∙ ap (λ (b : ℕ). getD p j 0 / 2 ^ b % 2) (omega arith))
     ∙ byte-bits (getD p j 0) h
+
+-- the first bytes of a payload are those that its bits write
+pub first-bytes : (p : List ℕ) (bytes : ℕ) → bytes ≤ length p → AreBytes p → firsts (byteOf (payloadBit p)) bytes ≡ take bytes p
+first-bytes p bytes whole small =
+    ext-getD 0 _ _ (length-firsts (byteOf (payloadBit p)) bytes ∙ sym (length-take-le bytes p whole))
+    (λ j l.
+    let h : j < bytes = omega (arith, l, length-firsts (byteOf (payloadBit p)) bytes) in
+    getD-firsts 0 (byteOf (payloadBit p)) bytes j h ∙ byte-back p j (small j (omega (arith, h, whole))) ∙ sym (getD-take bytes p j 0 h))
 
 -- the payload of so many bytes that bits write
 abbrev pub payloadOf : (v : ℕ → ℕ) (bytes : ℕ) → List ℕ
