@@ -1,5 +1,6 @@
 /* Calls the core from C through the header: the first line of document 01's listing, there and back; then the points
- * and the subcarriers of its second line's frame; then a frame of two symbols, written and read back. */
+ * and the subcarriers of its second line's frame; then a frame of two symbols, written and read back by steps and by one
+ * call. */
 #include "../include/ht_core.h"
 
 #include <stdio.h>
@@ -179,11 +180,58 @@ static void check_reader(void) {
     expect_step(step(state, symbol[1], 684, read, sizeof read), HT_CLOSED, 0, state, "one step more");
 }
 
+/* The same settings, but for seed 57 and the two symbols one after the other. */
+enum { SYMBOL = 684, FRAME = 2 * SYMBOL };
+
+static void write_symbol(const uint8_t *payload, uint32_t n, float *frame) {
+    expect(ht_points(40, 16, 1, 20, 57, 1, 1, 0, 0, payload, 20, n, frame + n * SYMBOL, SYMBOL), SYMBOL, "a frame's points");
+}
+
+static int64_t read_frame(uint32_t mcs, const float *points, size_t points_len, uint8_t *payload, size_t payload_len) {
+    return ht_read_frame(40, mcs, 1, 20, 1, 1, 0, 0, points, points_len, payload, payload_len);
+}
+
+static void check_read_frame(void) {
+    static float frame[FRAME + 1];
+    uint8_t sent[20], read[24], before[24];
+    for (size_t j = 0; j < sizeof sent; j++)
+        sent[j] = (uint8_t)(91 * j + 5);
+    memset(read, 0xAA, sizeof read);
+    memcpy(before, read, sizeof read);
+    write_symbol(sent, 0, frame);
+    write_symbol(sent, 1, frame);
+    frame[FRAME] = 9;
+
+    /* Refused frames: the settings, then 8, then the symbols. Where symbol 1 is refused, symbol 0 has 18 whole bytes. */
+    frame[SYMBOL] = 2;
+    expect(read_frame(32, frame, 0, read, 0), -HT_MCS, "a frame of MCS 32");
+    expect(read_frame(16, frame, FRAME - 1, read, 20), -HT_ROOM, "a frame with one float too few");
+    expect(read_frame(16, frame, FRAME, read, 19), -HT_ROOM, "a frame with one byte too few");
+    expect(read_frame(16, frame, FRAME, read, 20), -HT_POINT, "a frame with no level in symbol 1");
+    /* Data bit 159 of 162 in symbol 0 is another: no data bits give this symbol 1 after that symbol 0. */
+    sent[17] ^= 0x80;
+    write_symbol(sent, 1, frame);
+    sent[17] ^= 0x80;
+    expect(read_frame(16, frame, FRAME, read, 20), -HT_CODE, "a frame of two frames' symbols");
+    write_symbol(sent, 1, frame);
+    /* A frame of 19 bytes has its tail where this one has its last byte. */
+    expect(ht_read_frame(40, 16, 1, 19, 1, 1, 0, 0, frame, FRAME, read, 20), -HT_FRAME, "a frame of another length");
+    expect(memcmp(read, before, sizeof read), 0, "no byte of a refused frame");
+
+    expect(read_frame(16, frame, FRAME + 1, read, sizeof read), 57, "a frame by one call");
+    expect(memcmp(read, sent, sizeof sent), 0, "its payload");
+    expect(memcmp(read + 20, before + 20, 4), 0, "the bytes past the payload");
+    memset(read, 0xAA, sizeof read);
+    expect(read_frame(16, frame, FRAME, read, 20), 57, "a frame, exact room");
+    expect(memcmp(read, sent, sizeof sent), 0, "its payload, exact room");
+}
+
 int main(void) {
     check_signal();
     check_points();
     check_carrier();
     check_reader();
+    check_read_frame();
     if (failures == 0)
         printf("C calls: ok\n");
     return failures != 0;

@@ -112,6 +112,16 @@ int64_t ht_reader_place(uint32_t width, uint32_t mcs, uint32_t format, uint32_t 
 
 #define HT_NO_PLACE 65535
 
+/* Reads a whole frame by one call: the seed, with the payload written at payload, length bytes, and the rest of the slice
+ * as it was. points begins with the points of all symbols, symbol by symbol, each as ht_points writes it; floats past them
+ * are not looked at. Refusals in order: 1 to 4, 8 (fewer floats than symbols * floats of a symbol, or fewer bytes than
+ * length), then the symbols in order, each with 9, 10, 11. The first refused symbol ends it, and no byte is written then,
+ * also where symbols before it were accepted. Which symbol that was, ht_reader_step tells. The call reads into bytes of its
+ * own and takes about 80 KB of stack. */
+int64_t ht_read_frame(uint32_t width, uint32_t mcs, uint32_t format, uint32_t length,
+                      uint32_t smoothing, uint32_t not_sounding, uint32_t aggregation, uint32_t short_guard,
+                      const float *points, size_t points_len, uint8_t *payload, size_t payload_len);
+
 #ifdef __cplusplus
 }
 #endif

@@ -1,8 +1,8 @@
 //! Times the core's points calls beside two Rust programs of the same steps: a plain one, bit by bit and without tables,
 //! and the same tidied. Before it measures, it compares the three by bits on every symbol that it will measure.
 //!
-//! It also times the core reading the same symbols back, against writing them; before that, it compares the bytes read
-//! with the payload.
+//! It also times the core reading the same symbols back, step by step, against writing them, and a whole frame by one call
+//! against the steps; before that, it compares the bytes read with the payload.
 //!
 //! The first argument is the number of runs, 21 without one.
 
@@ -14,7 +14,7 @@ mod plain;
 mod tidy;
 
 use controller::{carrier, floats_per_symbol, symbol_count, Carrier, RawSettings, Refusal};
-use controller::{reader_start, reader_step_number};
+use controller::{read_frame, reader_start, reader_step_number};
 use std::hint::black_box;
 use std::time::{Duration, Instant};
 
@@ -121,8 +121,19 @@ impl Frame {
         all
     }
 
-    /// Whether the core reads the payload and the seed back from these points, and then needs no more symbols.
+    /// Whether the core reads the payload and the seed back from these points, by steps and by one call.
     fn is_read_back(&self, all: &[f32]) -> bool {
+        self.is_read_by_steps(all) && self.is_read_by_one_call(all)
+    }
+
+    fn is_read_by_one_call(&self, all: &[f32]) -> bool {
+        let mut read: Vec<u8> = self.payload.iter().map(|byte| !byte).collect();
+        let seed = read_frame(self.s, all, &mut read);
+        seed.map(u32::from) == Ok(self.s.seed) && read == self.payload
+    }
+
+    /// The same by steps, and that the reader then needs no more symbols.
+    fn is_read_by_steps(&self, all: &[f32]) -> bool {
         // No byte is right before it is read.
         let mut read: Vec<u8> = self.payload.iter().map(|byte| !byte).collect();
         let mut state = reader_start(self.s).expect("accepted settings");
@@ -225,23 +236,33 @@ fn time_reading(frame: &Frame, all: &[f32], payload: &mut [u8]) -> Time {
     })
 }
 
+/// The same by one call.
+fn time_one_call(frame: &Frame, all: &[f32], payload: &mut [u8]) -> Time {
+    time(|| {
+        let seed = read_frame(frame.s, black_box(all), payload);
+        assert!(black_box(seed).is_ok());
+        black_box(&mut *payload);
+    })
+}
+
 /// The middle one of the sorted durations (of an even number the later of two), in milliseconds.
 fn median(mut durations: Vec<Duration>) -> f64 {
     durations.sort();
     durations[durations.len() / 2].as_secs_f64() * 1e3
 }
 
-/// Medians in milliseconds: of the three programs, then of the question, then of reading.
+/// Medians in milliseconds: of the three programs, then of the question, then of reading by steps and by one call.
 struct Medians {
-    cpu: [f64; 5],
-    wall: [f64; 5],
+    cpu: [f64; 6],
+    wall: [f64; 6],
 }
 
 fn measure(frame: &Frame, all: &[f32], runs: usize) -> Medians {
     let places: Vec<Place> = (0..frame.symbols).map(|n| frame.place(n)).collect();
     let mut out = vec![0.0; frame.floats];
     let mut payload = vec![0; frame.payload.len()];
-    let mut times: [Vec<Time>; 5] = Default::default();
+    let mut at_once = payload.clone();
+    let mut times: [Vec<Time>; 6] = Default::default();
     // The first round warms up and is not counted.
     for round in 0..=runs {
         for turn in 0..times.len() {
@@ -249,6 +270,7 @@ fn measure(frame: &Frame, all: &[f32], runs: usize) -> Medians {
             let took = match subject {
                 3 => time_question(frame, &places),
                 4 => time_reading(frame, all, &mut payload),
+                5 => time_one_call(frame, all, &mut at_once),
                 program => time_points(PROGRAMS[program], frame, &mut out),
             };
             if round > 0 {
@@ -257,9 +279,11 @@ fn measure(frame: &Frame, all: &[f32], runs: usize) -> Medians {
         }
     }
     let medians = |of: fn(&Time) -> Duration| {
-        [0, 1, 2, 3, 4].map(|subject| median(times[subject].iter().map(of).collect()))
+        [0, 1, 2, 3, 4, 5].map(|subject| median(times[subject].iter().map(of).collect()))
     };
-    assert!(payload == frame.payload, "what was read is not the payload");
+    for read in [payload, at_once] {
+        assert!(read == frame.payload, "what was read is not the payload");
+    }
     Medians {
         cpu: medians(|time| time.cpu),
         wall: medians(|time| time.wall),
@@ -270,7 +294,7 @@ fn report(frame: &Frame, medians: &Medians) {
     println!("clock  program         ms  us/symbol  to plain  to tidied");
     for (clock, ms) in [("cpu", medians.cpu), ("wall", medians.wall)] {
         let us = ms.map(|ms| ms * 1e3 / f64::from(frame.symbols));
-        let [core, plain, tidied, question, reading] = ms;
+        let [core, plain, tidied, question, reading, one_call] = ms;
         for (program, name) in NAMES.iter().enumerate() {
             println!(
                 "{clock:5}  {name:7} {:>10.3} {:>10.3} {:>9.3} {:>10.3}",
@@ -290,6 +314,11 @@ fn report(frame: &Frame, medians: &Medians) {
             us[0],
             us[4],
             reading / core
+        );
+        println!(
+            "{clock:5}  core, us/symbol: read by one call {:.3}; one call / steps {:.3}",
+            us[5],
+            one_call / reading
         );
     }
 }
@@ -315,6 +344,9 @@ fn main() {
     println!(
         "Reading takes the symbols in order from one slice of all points; writing uses one symbol's buffer again."
     );
+    println!(
+        "Reading by one call takes the same slice and payload; it reads into bytes of its own, which it clears and copies."
+    );
     println!("cpu is the thread's CPU time, wall the time that passed.");
     for (mcs, width) in CASES {
         let frame = Frame::new(settings(mcs, width, 65_535));
@@ -333,7 +365,7 @@ fn main() {
             eprintln!("the core does not read its own symbols back");
             std::process::exit(1);
         }
-        println!("the core reads payload and seed back");
+        println!("the core reads payload and seed back, by steps and by one call");
         report(&frame, &measure(&frame, &all, runs));
     }
 }
@@ -424,21 +456,24 @@ mod tests {
         for (mcs, width) in CASES {
             let frame = Frame::new(settings(mcs, width, 2_000));
             let all = frame.all_points();
+            let read = |all: &[f32]| (frame.is_read_by_steps(all), frame.is_read_by_one_call(all));
+            assert_eq!(read(&all), (true, true));
             assert!(frame.is_read_back(&all));
-            assert!(!frame.is_read_back(&all[..all.len() - frame.floats]));
+            assert_eq!(read(&all[..all.len() - frame.floats]), (false, false));
             let mut damaged = all.clone();
             damaged[all.len() - 1] = f32::NAN;
-            assert!(!frame.is_read_back(&damaged));
+            assert_eq!(read(&damaged), (false, false));
             let mut other = Frame::new(frame.s);
             other.payload[1_999] ^= 128;
-            assert!(!frame.is_read_back(&other.all_points()));
+            assert_eq!(read(&other.all_points()), (false, false));
             other.payload[1_999] ^= 128;
             other.s.seed = 94;
+            assert_eq!(read(&other.all_points()), (false, false));
             assert!(!frame.is_read_back(&other.all_points()));
         }
     }
 
-    /// Five medians: of three programs, the question and reading.
+    /// Six medians: of three programs, the question, and reading by steps and by one call.
     #[test]
     fn everything_is_measured() {
         let frame = Frame::new(settings(0, 20, 200));

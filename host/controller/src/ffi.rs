@@ -110,6 +110,21 @@ extern "C" {
         points: *const f32,
         points_len: usize,
     ) -> i64;
+
+    fn ht_read_frame(
+        width: u32,
+        mcs: u32,
+        format: u32,
+        length: u32,
+        smoothing: u32,
+        not_sounding: u32,
+        aggregation: u32,
+        short_guard: u32,
+        points: *const f32,
+        points_len: usize,
+        payload: *mut u8,
+        payload_len: usize,
+    ) -> i64;
 }
 
 /// A call whose first nine numbers are the settings.
@@ -234,4 +249,18 @@ pub(crate) fn reader_step(
 pub(crate) fn reader_place(s: &RawOpenSettings, state: u64, points: &[f32]) -> i64 {
     // SAFETY: the pointer and the length are those of one borrowed slice, which the core only reads.
     unsafe { with_open_settings!(ht_reader_place, s, state, points.as_ptr(), points.len()) }
+}
+
+pub(crate) fn read_frame(s: &RawOpenSettings, points: &[f32], payload: &mut [u8]) -> i64 {
+    // SAFETY: as in `reader_step`.
+    unsafe {
+        with_open_settings!(
+            ht_read_frame,
+            s,
+            points.as_ptr(),
+            points.len(),
+            payload.as_mut_ptr(),
+            payload.len()
+        )
+    }
 }

@@ -22,7 +22,8 @@
 //!
 //! [`points`] gives any one data symbol of a frame by its number, in any order; [`carrier`] says what
 //! one subcarrier of it carries. [`Reader`] takes the symbols 0, 1, 2 and so on back and gives the
-//! payload and the seed, or refuses what no frame of its settings is.
+//! payload and the seed, or refuses what no frame of its settings is. [`read_frame`] does this by one
+//! call for a frame whose points stand in one slice.
 
 #![deny(unsafe_code)]
 
@@ -30,12 +31,14 @@
 mod ffi;
 mod reader;
 mod refusal;
+mod whole_frame;
 
 pub use reader::{
     reader_place, reader_start, reader_step_number, OpenSettings, RawOpenSettings, RawStep,
     ReadRefusal, Reader, Step,
 };
 pub use refusal::Refusal;
+pub use whole_frame::{read_frame, FrameRefusal};
 
 /// The channel width.
 #[derive(Clone, Copy, Debug, PartialEq, Eq, Hash)]

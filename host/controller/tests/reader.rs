@@ -6,23 +6,19 @@
 mod common;
 
 use common::reading::{
-    any_state, few_symbols, flip_label_bit, kind, number_of, own_numbers, payload_bits_before,
-    place_of, state_of, symbol, symbol_from, Both, Damage, Frame, Kind, Lent, ENDED, NO_STATE,
+    any_state, edge_length, few_symbols, flip_label_bit, kind, number_of, own_numbers,
+    payload_bits_before, place_of, refused_settings, state_of, symbol, symbol_from, Both, Damage,
+    Edge, Frame, Kind, Lent, ENDED, NO_STATE,
 };
-use common::{any_settings, numbered, second_open, Draw, GOOD};
+use common::{
+    any_settings, count_from, numbered, second_open, typed_settings, widths_and_mcs, Draw, GOOD,
+};
 use controller::{
     floats_per_symbol, points, reader_place, reader_start, reader_step_number, symbol_count, Flags,
     Format, OpenSettings, RawOpenSettings, RawSettings, RawStep, ReadRefusal, Reader, Refusal,
-    Settings, Step, Width, MAX_FLOATS,
+    Step, Width, MAX_FLOATS,
 };
 use second::State;
-
-/// The 64 widths and MCS.
-fn widths_and_mcs() -> impl Iterator<Item = (u32, u32)> {
-    [20, 40]
-        .into_iter()
-        .flat_map(|width| (0..32).map(move |mcs| (width, mcs)))
-}
 
 /// The start against the second program: any of refusals 1 to 4 at once, by a mask.
 #[test]
@@ -86,33 +82,6 @@ fn read_back(s: RawSettings, both: &mut Both, draw: &mut Draw) {
     assert!(lent.bytes()[..payload.len()] == payload, "{s:?}");
     let last = symbol(s, &payload, count - 1);
     assert_eq!(both.step(s, state, &last, &mut lent).0.number, 12, "{s:?}");
-}
-
-/// Where a frame's tail lies.
-#[derive(Clone, Copy, Debug, PartialEq, Eq)]
-enum Edge {
-    /// Its bits stand in two symbols.
-    TailInTwo,
-    /// It begins a symbol.
-    TailBegins,
-    /// It ends one: there is no pad.
-    NoPad,
-}
-
-/// The shortest length of at least two symbols with this edge, if one of up to nine symbols has it.
-fn edge_length(width: u32, mcs: u32, edge: Edge) -> Option<u32> {
-    let d = second::data_bits_per_symbol(width, mcs);
-    let tail_bits = 6 * second::encoders(mcs);
-    let has_edge = |length: &u32| {
-        let tail = 16 + 8 * length;
-        let end = tail + tail_bits;
-        match edge {
-            Edge::TailInTwo => !tail.is_multiple_of(d) && tail / d != (end - 1) / d,
-            Edge::TailBegins => tail.is_multiple_of(d),
-            Edge::NoPad => end.is_multiple_of(d) && end > d,
-        }
-    };
-    (1..9 * d / 8).find(has_edge)
 }
 
 /// Every MCS, width and format; the shortest lengths, about three symbols, and the edges of tail and pad.
@@ -659,20 +628,6 @@ fn numbers_of_2_to_the_49_and_more() {
     assert_eq!(both.given[12], 64 * (15 * 4 + 1));
 }
 
-/// Makes settings that are refused by number 1 to 4. The wrong numbers are near the right ones, or right ones with a bit
-/// above the eighth or the sixteenth.
-fn refused_settings(open: RawOpenSettings, number: u64, draw: &mut Draw) -> RawOpenSettings {
-    let mut open = open;
-    let bit = draw.of(&[1 << 8, 1 << 16, 1 << 31]);
-    match number {
-        1 => open.width = draw.of(&[0, 19, 21, 41, open.width | bit]),
-        2 => open.mcs = draw.of(&[32, 33, u32::MAX, open.mcs | bit]),
-        3 => open.format = draw.of(&[2, u32::MAX, open.format | bit]),
-        _ => open.length = draw.of(&[0, 65_536, u32::MAX, open.length | 1 << 16]),
-    }
-    open
-}
-
 /// With settings that are refused every state is closed: 12, and never 1 to 4.
 #[test]
 fn refused_settings_are_12() {
@@ -793,20 +748,10 @@ fn the_order_is_12_8_9_10_11() {
     assert_eq!(both.given, [16, 0, 0, 0, 0, 0, 0, 0, 128, 64, 32, 16, 256]);
 }
 
-/// The number of steps of the longer run.
-fn fuzz_steps() -> usize {
-    match std::env::var("HT_FUZZ_STEPS") {
-        Ok(steps) => steps
-            .parse()
-            .expect("HT_FUZZ_STEPS is the number of steps of random_steps"),
-        Err(_) => 8_000,
-    }
-}
-
 /// Any settings, states, symbols, damage and room.
 #[test]
 fn random_steps() {
-    let steps = fuzz_steps();
+    let steps = count_from("HT_FUZZ_STEPS", 8_000);
     let mut draw = Draw::new(67);
     let mut both = Both::default();
     let mut seeds = 0;
@@ -887,28 +832,6 @@ fn random_step(frame: &Frame, both: &mut Both, draw: &mut Draw) -> RawStep {
     }
     let mut lent = Lent::new(room, draw);
     both.step(open, state, &floats, &mut lent).0
-}
-
-/// Any typed settings of a width and an MCS.
-fn typed_settings(width: u32, mcs: u32, length: u32, draw: &mut Draw) -> Settings {
-    let [smoothing, not_sounding, aggregation, short_guard] = [0; 4].map(|_| draw.below(2) == 1);
-    Settings {
-        width: if width == 40 {
-            Width::Mhz40
-        } else {
-            Width::Mhz20
-        },
-        mcs,
-        format: draw.of(&[Format::Mixed, Format::GreenField]),
-        length,
-        seed: 1 + draw.below(127) as u32,
-        flags: Flags {
-            smoothing,
-            not_sounding,
-            aggregation,
-            short_guard,
-        },
-    }
 }
 
 /// The typed reader to the last symbol, with a short slice before every symbol.

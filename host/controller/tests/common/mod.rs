@@ -4,7 +4,7 @@
 
 pub mod reading;
 
-use controller::{Carrier, RawOpenSettings, RawSettings};
+use controller::{Carrier, Flags, Format, RawOpenSettings, RawSettings, Settings, Width};
 
 /// xorshift64*: the same numbers on every run.
 pub struct Draw(u64);
@@ -34,6 +34,23 @@ impl Draw {
     }
 }
 
+/// How often something random is tried: what the environment says, or the number without it.
+pub fn count_from(variable: &str, without: usize) -> usize {
+    match std::env::var(variable) {
+        Ok(count) => count
+            .parse()
+            .unwrap_or_else(|_| panic!("{variable} is a number")),
+        Err(_) => without,
+    }
+}
+
+/// The 64 widths and MCS.
+pub fn widths_and_mcs() -> impl Iterator<Item = (u32, u32)> {
+    [20, 40]
+        .into_iter()
+        .flat_map(|width| (0..32).map(move |mcs| (width, mcs)))
+}
+
 /// Any accepted settings of a width and an MCS.
 pub fn any_settings(width: u32, mcs: u32, length: u32, draw: &mut Draw) -> RawSettings {
     RawSettings {
@@ -46,6 +63,28 @@ pub fn any_settings(width: u32, mcs: u32, length: u32, draw: &mut Draw) -> RawSe
         not_sounding: draw.of(&[0, 1, 256]),
         aggregation: draw.of(&[0, 1, 1 << 31]),
         short_guard: draw.of(&[0, 1, 1 << 16]),
+    }
+}
+
+/// Any typed settings of a width and an MCS.
+pub fn typed_settings(width: u32, mcs: u32, length: u32, draw: &mut Draw) -> Settings {
+    let [smoothing, not_sounding, aggregation, short_guard] = [0; 4].map(|_| draw.below(2) == 1);
+    Settings {
+        width: if width == 40 {
+            Width::Mhz40
+        } else {
+            Width::Mhz20
+        },
+        mcs,
+        format: draw.of(&[Format::Mixed, Format::GreenField]),
+        length,
+        seed: 1 + draw.below(127) as u32,
+        flags: Flags {
+            smoothing,
+            not_sounding,
+            aggregation,
+            short_guard,
+        },
     }
 }
 

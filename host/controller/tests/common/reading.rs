@@ -35,7 +35,7 @@ pub fn state_of(number: u64) -> State {
 }
 
 /// Bytes on both sides of a lent payload slice and floats on both sides of lent points; they have to stay too.
-const GUARD: usize = 16;
+pub const GUARD: usize = 16;
 
 /// Memory with some bytes to lend between the guards; any bytes stand in it before.
 #[derive(Clone)]
@@ -50,6 +50,11 @@ impl Lent {
         }
     }
 
+    /// The bytes and their guards.
+    pub fn memory(&self) -> &[u8] {
+        &self.memory
+    }
+
     pub fn bytes(&self) -> &[u8] {
         &self.memory[GUARD..self.memory.len() - GUARD]
     }
@@ -61,7 +66,7 @@ impl Lent {
 }
 
 /// Floats between guards of signalling NaNs that all differ.
-fn guarded(points: &[f32]) -> Vec<f32> {
+pub fn guarded(points: &[f32]) -> Vec<f32> {
     let guard = |first: u32| (first..).take(GUARD).map(f32::from_bits);
     guard(0x7F80_0001)
         .chain(points.iter().copied())
@@ -291,6 +296,47 @@ pub fn symbol(s: RawSettings, payload: &[u8], n: usize) -> Vec<f32> {
 pub fn few_symbols(width: u32, mcs: u32, most: u64, draw: &mut Draw) -> u32 {
     let d = u64::from(second::data_bits_per_symbol(width, mcs));
     1 + draw.below((most * d).saturating_sub(40).max(8) / 8) as u32
+}
+
+/// Where a frame's tail lies.
+#[derive(Clone, Copy, Debug, PartialEq, Eq)]
+pub enum Edge {
+    /// Its bits stand in two symbols.
+    TailInTwo,
+    /// It begins a symbol.
+    TailBegins,
+    /// It ends one: there is no pad.
+    NoPad,
+}
+
+/// The shortest length of at least two symbols with this edge, if one of up to nine symbols has it.
+pub fn edge_length(width: u32, mcs: u32, edge: Edge) -> Option<u32> {
+    let d = second::data_bits_per_symbol(width, mcs);
+    let tail_bits = 6 * second::encoders(mcs);
+    let has_edge = |length: &u32| {
+        let tail = 16 + 8 * length;
+        let end = tail + tail_bits;
+        match edge {
+            Edge::TailInTwo => !tail.is_multiple_of(d) && tail / d != (end - 1) / d,
+            Edge::TailBegins => tail.is_multiple_of(d),
+            Edge::NoPad => end.is_multiple_of(d) && end > d,
+        }
+    };
+    (1..9 * d / 8).find(has_edge)
+}
+
+/// Makes settings that are refused by number 1 to 4. The wrong numbers are near the right ones, or right ones with a bit
+/// above the eighth or the sixteenth.
+pub fn refused_settings(open: RawOpenSettings, number: u64, draw: &mut Draw) -> RawOpenSettings {
+    let mut open = open;
+    let bit = draw.of(&[1 << 8, 1 << 16, 1 << 31]);
+    match number {
+        1 => open.width = draw.of(&[0, 19, 21, 41, open.width | bit]),
+        2 => open.mcs = draw.of(&[32, 33, u32::MAX, open.mcs | bit]),
+        3 => open.format = draw.of(&[2, u32::MAX, open.format | bit]),
+        _ => open.length = draw.of(&[0, 65_536, u32::MAX, open.length | 1 << 16]),
+    }
+    open
 }
 
 /// A frame with its symbols, the state before each of them by the core, and its data bits as the encoders take them.
