@@ -1,5 +1,5 @@
 -- Demand 3, sentence by sentence. Each type speaks of the answers and of the lent slices after two calls; the terms are in proofs/Demand3, and
--- the functions of src/two.rt make the calls and promise the same of their own slices.
+-- the functions of crate two_calls make the calls and promise the same of their own slices.
 use mathlib.Core.Path.{_≡_}
 use mathlib.Core.List.{List}
 use Prim.Native.Nat.{ℕ, _+_, _*_, _/_, _<_, _≤_}

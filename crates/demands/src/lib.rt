@@ -1,2 +1,1 @@
-// The customer's demands of the calls themselves.
-pub mod two;
+// The customer's demands of the calls, sentence by sentence. They stand in specs/ and proofs/; there is no code here.

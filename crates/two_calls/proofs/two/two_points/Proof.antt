@@ -5,10 +5,10 @@ use Prim.Native.Nat.{ℕ}
 use lib.Ieee.{Float}
 use Rattle.settings.specs.declared.settings.RawSettings.{RawSettings}
 use Rattle.frame.specs.declared.points.PointsAnswer.{PointsAnswer}
 use Rattle.demands.specs.Demand3.{SamePoints, LocalPoints, DifferingPoints, SeedPoints, OfPoints}
 use Rattle.demands.proofs.Demand3.{of-points, same-points, local-points, differing-points, seed-points}
-use Rattle.demands.proofs.two.two_points.Statement.{statement}
-use Rattle.demands.proofs.two.two_points.Tie as tie
+use Rattle.two_calls.proofs.two.two_points.Statement.{statement}
+use Rattle.two_calls.proofs.two.two_points.Tie as tie
 
 returns : tie.Need-returns
 returns c =

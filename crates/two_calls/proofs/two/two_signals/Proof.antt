@@ -1,8 +1,8 @@
 use denote.Ref.{now}
 use Rattle.demands.proofs.Demand3.{of-signals}
 use borrow.Author.Needs.{needs}
-use Rattle.demands.proofs.two.two_signals.Statement.{statement}
-use Rattle.demands.proofs.two.two_signals.Tie as tie
+use Rattle.two_calls.proofs.two.two_signals.Statement.{statement}
+use Rattle.two_calls.proofs.two.two_signals.Tie as tie
 
 returns : tie.Need-returns
 returns c =

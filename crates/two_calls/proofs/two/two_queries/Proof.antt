@@ -4,10 +4,10 @@ use mir.Facts.{toZ-ofZ}
 use borrow.Author.Needs.{needs}
 use Rattle.settings.specs.Settings.{checkOf}
 use Rattle.query.specs.Query.{queryOf}
 use Rattle.demands.specs.Demand3.{SameQuery, LocalQuery}
 use Rattle.demands.proofs.Demand3.{of-queries, same-query, local-query}
-use Rattle.demands.proofs.two.two_queries.Statement.{statement}
-use Rattle.demands.proofs.two.two_queries.Tie as tie
+use Rattle.two_calls.proofs.two.two_queries.Statement.{statement}
+use Rattle.two_calls.proofs.two.two_queries.Tie as tie
 
 returns : tie.Need-returns
 returns c =

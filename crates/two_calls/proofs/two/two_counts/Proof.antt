@@ -1,8 +1,8 @@
 use mathlib.Core.Path.{_∙_, sym}
 use Rattle.demands.proofs.Demand3.{same-count}
 use borrow.Author.Needs.{needs}
-use Rattle.demands.proofs.two.two_counts.Statement.{statement}
-use Rattle.demands.proofs.two.two_counts.Tie as tie
+use Rattle.two_calls.proofs.two.two_counts.Statement.{statement}
+use Rattle.two_calls.proofs.two.two_counts.Tie as tie
 
 returns : tie.Need-returns
 returns c =
