@@ -20,7 +20,7 @@ ghost use Rattle.query.specs.Query.{queryOf};
 ghost use lib.IntN.{pos};
 ghost use Rattle.reader_state.specs.State.{startOf};
 ghost use Rattle.reader_numbers.specs.Numbers.{openOf, startResult, stepResult, stepResultInto, placeResult};
-ghost use Rattle.frame_reader.specs.WholeFrame.{readFrameOf, readFrameInto};
+ghost use Rattle.frame_steps.specs.WholeFrame.{readFrameOf, readFrameInto};
 ghost use Rattle.frame_reader.specs.Result.{frameResult};
 ghost use Rattle.conversions.specs.Results.{rawOf, countResult, writtenResult, readResult, pointsResult, carrierResult, carrierInto};
 

@@ -25,14 +25,15 @@ use Rattle.reader_state.specs.declared.state.Reader.{Reader}
 use Rattle.reader_state.specs.State.{openRaw, startOf}
 use Rattle.reader_runs.specs.Sent.{settingsFor}
 use Rattle.reader_runs.proofs.Endings.{start-kept}
-use Rattle.frame_reader.specs.declared.read.FrameAnswer.{FrameAnswer}
-use Rattle.frame_reader.specs.declared.read.FrameAnswer.the-variants.{Read, Refused as FrameRefused}
-use Rattle.frame_reader.specs.WholeFrame.{memoryAt, symbolsAnswer, frameNoRoom, readFrameBy, readFrameOf, frameIntoBy, readFrameInto}
-use Rattle.frame_reader.specs.Asked.{FrameAsked, SymbolsAsked, SymbolsRead, FrameLeft}
-use Rattle.frame_reader.proofs.AnswerLaws.{first-count, none-refused}
-use Rattle.frame_reader.specs.Statements.{ReadsFrame}
-use Rattle.frame_reader.proofs.FrameLaws.{answer-room, copied}
-use Rattle.frame_reader.proofs.Exactly.{unread, reads-frame}
+use Rattle.frame_steps.specs.declared.steps.FrameAnswer.{FrameAnswer}
+use Rattle.frame_steps.specs.declared.steps.FrameAnswer.the-variants.{Read, Refused as FrameRefused}
+use Rattle.frame_steps.specs.WholeFrame.{memoryAt, symbolsAnswer, frameNoRoom, readFrameBy, readFrameOf, frameIntoBy, readFrameInto}
+use Rattle.frame_steps.specs.Asked.{FrameAsked, SymbolsAsked, SymbolsRead}
+use Rattle.frame_reader.specs.Asked.{FrameLeft}
+use Rattle.frame_steps.proofs.AnswerLaws.{first-count, none-refused}
+use Rattle.frame_steps.specs.Statements.{ReadsFrame}
+use Rattle.frame_steps.proofs.FrameLaws.{answer-room, copied}
+use Rattle.frame_steps.proofs.Exactly.{unread, reads-frame}
 
 -- ---- bytes read apart
 

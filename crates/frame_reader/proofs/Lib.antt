@@ -1,5 +1,1 @@
-pub mod AnswerLaws
-pub mod FrameLaws
-pub mod LoopLaws
-pub mod Exactly
 pub mod ApartLaws

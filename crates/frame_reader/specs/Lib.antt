@@ -1,4 +1,2 @@
-pub mod WholeFrame
 pub mod Asked
 pub mod Result
-pub mod Statements

@@ -2,8 +2,8 @@
 use lib.IntN.{ℤ, pos}
 use Rattle.settings.specs.declared.settings.Refusal.the-variants.{Point}
 use Rattle.conversions.specs.Results.{refusedResult}
-use Rattle.frame_reader.specs.declared.read.FrameAnswer.{FrameAnswer}
-use Rattle.frame_reader.specs.declared.read.FrameAnswer.the-variants.{Read, BadPoint, BadSymbol, Refused}
+use Rattle.frame_steps.specs.declared.steps.FrameAnswer.{FrameAnswer}
+use Rattle.frame_steps.specs.declared.steps.FrameAnswer.the-variants.{Read, BadPoint, BadSymbol, Refused}
 
 abbrev pub frameResult : FrameAnswer → ℤ
 frameResult (Read seed) = pos seed

@@ -1,13 +1,13 @@
 // The reading of a whole frame as C callers see it: the seed, or the refusal's number negated.
-use crate::read::FrameAnswer;
 use crate::read::read_frame;
 use conversions::refused;
+use frame_steps::steps::FrameAnswer;
 use reader_state::state::OpenSettings;
 use settings::settings::Refusal;
 ghost use mathlib.Core.Path.{_≡_};
 ghost use Prim.Native.Nat.{_<_};
 ghost use lib.ListN.{length};
-ghost use Rattle.frame_reader.specs.WholeFrame.{readFrameOf, readFrameInto};
+ghost use Rattle.frame_steps.specs.WholeFrame.{readFrameOf, readFrameInto};
 ghost use Rattle.frame_reader.specs.Result.{frameResult};
 
 fn wide(x: u8) -> u64

@@ -2,7 +2,7 @@ use denote.Ref.{now}
 use mathlib.Core.Path.{_∙_, ap}
 use lib.ListN.{length}
 use Rattle.reader_state.specs.declared.state.OpenSettings.{OpenSettings}
-use Rattle.frame_reader.specs.WholeFrame.{readFrameOf, readFrameInto}
+use Rattle.frame_steps.specs.WholeFrame.{readFrameOf, readFrameInto}
 use Rattle.frame_reader.specs.Result.{frameResult}
 use borrow.Author.Needs.{needs}
 use Rattle.capi.proofs.ht_read_frame.Statement.{statement}

@@ -36,12 +36,12 @@ use Rattle.reader_runs.proofs.Payloads.{first-bytes}
 use Rattle.demands.specs.Demand2.{Begun, IsFrame}
 use Rattle.demands.proofs.Reading.{begun-ready}
 use Rattle.demands.proofs.Demand2.{gives-all, demand-2a}
-use Rattle.frame_reader.specs.declared.read.FrameAnswer.{FrameAnswer}
-use Rattle.frame_reader.specs.declared.read.FrameAnswer.the-variants.{Read, BadPoint as BadPointAt, BadSymbol, Refused as FrameRefused}
-use Rattle.frame_reader.specs.WholeFrame.{symbolAt, answerAt, memoryAt, firstRefused, refusedAs, symbolsAnswer, frameNoRoom, readFrameBy, readFrameOf, frameIntoBy, readFrameInto, frameNumber}
-use Rattle.frame_reader.specs.Statements.{RoomForFrame, GivesFrame, ReadsFrame, FrameRefusals}
-use Rattle.frame_reader.proofs.AnswerLaws.{answer-at, answer-read, none-refused}
-use Rattle.frame_reader.proofs.FrameLaws.{rooms, payload-read}
+use Rattle.frame_steps.specs.declared.steps.FrameAnswer.{FrameAnswer}
+use Rattle.frame_steps.specs.declared.steps.FrameAnswer.the-variants.{Read, BadPoint as BadPointAt, BadSymbol, Refused as FrameRefused}
+use Rattle.frame_steps.specs.WholeFrame.{symbolAt, answerAt, memoryAt, firstRefused, refusedAs, symbolsAnswer, frameNoRoom, readFrameBy, readFrameOf, frameIntoBy, readFrameInto, frameNumber}
+use Rattle.frame_steps.specs.Statements.{RoomForFrame, GivesFrame, ReadsFrame, FrameRefusals}
+use Rattle.frame_steps.proofs.AnswerLaws.{answer-at, answer-read, none-refused}
+use Rattle.frame_steps.proofs.FrameLaws.{rooms, payload-read}
 
 -- ---- with room the answer is the symbols'
 

@@ -27,8 +27,8 @@ use Rattle.reader_runs.specs.Sent.{settingsFor, SentBy, Rooms}
 use Rattle.reader_runs.proofs.Runs.{run-gives, run-takes}
 use Rattle.reader_runs.proofs.Memory.{memory-whole}
 use Rattle.reader_runs.proofs.Endings.{answers-room}
-use Rattle.frame_reader.specs.declared.read.FrameAnswer.the-variants.{Read}
-use Rattle.frame_reader.specs.WholeFrame.{symbolAt, answerAt, memoryAt, firstRefused, refusedAs, symbolsAnswer}
+use Rattle.frame_steps.specs.declared.steps.FrameAnswer.the-variants.{Read}
+use Rattle.frame_steps.specs.WholeFrame.{symbolAt, answerAt, memoryAt, firstRefused, refusedAs, symbolsAnswer}
 
 module _ (o : OpenSettings) (ready : checkOf (openRaw o) ≡ Accepted (settingsFor o)) (points : List Float)
     (whole : symbolsOf (settingsFor o) * floatsOf (settingsFor o) ≤ length points) where

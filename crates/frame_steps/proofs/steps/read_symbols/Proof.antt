@@ -13,11 +13,11 @@ use Rattle.symbols.specs.Symbols.{symbolsOf}
 use Rattle.acceptance.specs.declared.accept.StepAnswer.the-variants.{First}
 use Rattle.reader.specs.Step.{stepOf, stepInto, stepNumber}
 use Rattle.reader_runs.specs.Sent.{settingsFor}
-use Rattle.frame_reader.specs.declared.read.FrameAnswer.the-variants.{BadPoint}
-use Rattle.frame_reader.specs.WholeFrame.{refusedAs}
-use Rattle.frame_reader.proofs.LoopLaws.{Before, refusal-some, before-first, inside, before-next, read-refused, read-all}
-use Rattle.frame_reader.proofs.read.read_symbols.Statement.{statement}
-use Rattle.frame_reader.proofs.read.read_symbols.Tie as tie
+use Rattle.frame_steps.specs.declared.steps.FrameAnswer.the-variants.{BadPoint}
+use Rattle.frame_steps.specs.WholeFrame.{refusedAs}
+use Rattle.frame_steps.proofs.LoopLaws.{Before, refusal-some, before-first, inside, before-next, read-refused, read-all}
+use Rattle.frame_steps.proofs.steps.read_symbols.Statement.{statement}
+use Rattle.frame_steps.proofs.steps.read_symbols.Tie as tie
 
 abbrev Inv-loop : tie.InvT-loop
 Inv-loop count floats points payload₀ state₀ seed₀ n₀ at₀ payload state seed n at = Before (state₀ .settings) points payload₀ n payload state seed at

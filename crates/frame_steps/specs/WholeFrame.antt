@@ -21,8 +21,8 @@ use Rattle.reader_state.specs.State.{openRaw}
 use Rattle.reader.specs.Step.{stepNumber, stepSeed}
 use Rattle.reader_runs.specs.Run.{answerTo, memoryBefore}
 use Rattle.reader_runs.specs.Sent.{settingsFor}
-use Rattle.frame_reader.specs.declared.read.FrameAnswer.{FrameAnswer}
-use Rattle.frame_reader.specs.declared.read.FrameAnswer.the-variants.{Read, BadPoint as BadPointAt, BadSymbol, Refused as FrameRefused}
+use Rattle.frame_steps.specs.declared.steps.FrameAnswer.{FrameAnswer}
+use Rattle.frame_steps.specs.declared.steps.FrameAnswer.the-variants.{Read, BadPoint as BadPointAt, BadSymbol, Refused as FrameRefused}
 
 -- a frame's points stand symbol by symbol: those from symbol n on
 abbrev pub symbolAt : Settings → (points : List Float) (n : ℕ) → List Float

@@ -18,8 +18,8 @@ use Rattle.acceptance.specs.declared.accept.StepAnswer.{StepAnswer}
 use Rattle.acceptance.specs.declared.accept.StepAnswer.the-variants.{First, Next, BadPoint, Refused as StepRefused}
 use Rattle.reader.specs.Step.{stepNumber, stepSeed}
 use Rattle.reader_runs.specs.Sent.{settingsFor}
-use Rattle.frame_reader.specs.declared.read.FrameAnswer.the-variants.{Read}
-use Rattle.frame_reader.specs.WholeFrame.{answerAt, firstRefused, refusedAs, symbolsAnswer}
+use Rattle.frame_steps.specs.declared.steps.FrameAnswer.the-variants.{Read}
+use Rattle.frame_steps.specs.WholeFrame.{answerAt, firstRefused, refusedAs, symbolsAnswer}
 
 not-false : (t : Bool) → not t ≡ false → t ≡ true
 not-false true e = refl

@@ -29,12 +29,12 @@ use Rattle.reader.specs.Step.{stepOf, stepInto, stepNumber, stepSeed}
 use Rattle.verdicts.proofs.Refusals.{refused-step-unchanged}
 use Rattle.reader_runs.specs.Run.{stateBefore, memoryBefore}
 use Rattle.reader_runs.specs.Sent.{settingsFor}
-use Rattle.frame_reader.specs.declared.read.FrameAnswer.{FrameAnswer}
-use Rattle.frame_reader.specs.declared.read.FrameAnswer.the-variants.{Read}
-use Rattle.frame_reader.specs.WholeFrame.{symbolAt, answerAt, memoryAt, refusedAs}
-use Rattle.frame_reader.specs.Asked.{SymbolsAsked, SymbolsRead}
-use Rattle.frame_reader.proofs.AnswerLaws.{first-at, answer-at, first-count, answer-read}
-use Rattle.frame_reader.proofs.FrameLaws.{accepted-as}
+use Rattle.frame_steps.specs.declared.steps.FrameAnswer.{FrameAnswer}
+use Rattle.frame_steps.specs.declared.steps.FrameAnswer.the-variants.{Read}
+use Rattle.frame_steps.specs.WholeFrame.{symbolAt, answerAt, memoryAt, refusedAs}
+use Rattle.frame_steps.specs.Asked.{SymbolsAsked, SymbolsRead}
+use Rattle.frame_steps.proofs.AnswerLaws.{first-at, answer-at, first-count, answer-read}
+use Rattle.frame_steps.proofs.FrameLaws.{accepted-as}
 
 -- a refusal's number is not that of acceptance
 pub refusal-some : (r : Refusal) → numberOf r ≡ 0 → ⊥

@@ -14,9 +14,9 @@ use Rattle.reader_state.specs.declared.state.StartAnswer.the-variants.{Refused 
 use Rattle.reader_state.specs.State.{startOf}
 use Rattle.reader_runs.specs.Sent.{settingsFor}
 use Rattle.demands.specs.Demand2.{Begun, IsFrame, GivesSymbol, Accepts}
-use Rattle.frame_reader.specs.declared.read.FrameAnswer.{FrameAnswer}
-use Rattle.frame_reader.specs.declared.read.FrameAnswer.the-variants.{Read, Refused as FrameRefused}
-use Rattle.frame_reader.specs.WholeFrame.{symbolAt, answerAt, refusedAs, readFrameOf, frameNumber}
+use Rattle.frame_steps.specs.declared.steps.FrameAnswer.{FrameAnswer}
+use Rattle.frame_steps.specs.declared.steps.FrameAnswer.the-variants.{Read, Refused as FrameRefused}
+use Rattle.frame_steps.specs.WholeFrame.{symbolAt, answerAt, refusedAs, readFrameOf, frameNumber}
 
 -- room for every symbol's points, and for the payload
 abbrev pub RoomForFrame : (o : OpenSettings) (floats bytes : ℕ) → Type 0

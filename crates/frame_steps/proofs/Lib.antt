@@ -1,0 +1,4 @@
+pub mod AnswerLaws
+pub mod FrameLaws
+pub mod LoopLaws
+pub mod Exactly

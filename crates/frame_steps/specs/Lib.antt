@@ -1,0 +1,3 @@
+pub mod WholeFrame
+pub mod Asked
+pub mod Statements
