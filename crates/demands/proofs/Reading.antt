@@ -40,10 +40,6 @@ begun-ready o = go (checkOf (openRaw o)) refl
     go (Accepted s) e begun = e ∙ ap Accepted (sym (passed (openRaw o) s e .meant))
     go (Refused r) e begun = absurd (let n : _≡_ {A = ℕ} 0 1 = ap isReady begun in omega (arith, n))
 
--- and the other way
-pub ready-begun : (o : OpenSettings) → checkOf (openRaw o) ≡ Accepted (settingsFor o) → Begun o
-ready-begun o ready = ap (λ (x : Checked). startBy x o .answer) ready
-
 module _ (o : OpenSettings) (ready : checkOf (openRaw o) ≡ Accepted (settingsFor o)) (seed : ℕ) (some : 1 ≤ seed) (most : seed ≤ 127) where
   seed-passes : badSeed (withSeed o seed) ≡ false
   seed-passes = simp (ne-eqb seed 0 (λ e. omega (arith, e, some)), le-ltb 127 seed most)

@@ -5,7 +5,7 @@ use mathlib.Core.Bool.{true, cond}
 use mathlib.Core.List.{[], _∷_}
 use mathlib.Core.Logic.{⊎-elim}
 use Prim.Native.Nat.{ℕ, zero, suc, _+_, _-_, _*_, _/_, _%_, _<_, _≤_}
-use native.Mathlib.Nat.{zero-mul, suc-mul, mul-le-mul-right}
+use native.Mathlib.Nat.{zero-mul}
 use native.Mathlib.Omega.{arith}
 use lib.Dec.{T, eqb, ltb}
 use borrow.Author.Tests.{lt-ltb, le-ltb, ltb-true}
@@ -17,7 +17,6 @@ use Rattle.chain.specs.Decoder.{decodes, historyBefore}
 use Rattle.chain.proofs.Counts.{encoders-some}
 use Rattle.chain.proofs.ScramblerLaws.{state-zero, output-on, scrambler-bit, seed-small}
 use Rattle.chain.proofs.InputLaws.{input-local}
-use Rattle.chain.proofs.LabelLaws.{labels-local}
 use Rattle.chain.proofs.DecodeLaws.{decoded-bit, history-local, label-after, after-same, after-local, decoded-labels}
 use Rattle.settings.specs.declared.settings.Settings.{Settings}
 use Rattle.settings.specs.Settings.{planFor, Right}
@@ -116,13 +115,6 @@ module _ (s : Settings) (right : Right s) (o : OpenSettings) where
 
     agree-part : partOf w (bitsBefore s n) ≡ partOf v (bitsBefore s n)
     agree-part = packed-ext w v (8 * (bitsBefore s n / 8)) (bitsBefore s n % 8) (λ k l. agree .bits _ (omega arith))
-
-    -- the same symbols before it
-    pub labels-agree : (m : ℕ) → m < n → (lab : ℕ → ℕ → ℕ) → LabelsSent s v seed m lab → LabelsSent s w seed′ m lab
-    labels-agree m l lab sent i r h b =
-        sent i r h b
-        ∙ sym (labels-local (planFor s) (plan-fits s right) (sentInput s w seed′) (sentInput s v seed) m
-        (λ d low high. agree-input d (omega (arith, high, rw suc-mul at (mul-le-mul-right (planFor s .dbps) l)))) i r h b)
 
   -- the same scrambler
   agree-scrambler : (n : ℕ) (v : ℕ → ℕ) (seed : ℕ) (w : ℕ → ℕ) (seed′ : ℕ) → Agree s n v seed w seed′
