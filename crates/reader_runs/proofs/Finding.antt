@@ -1,4 +1,4 @@
--- An accepted symbol is that of a frame that agrees with the one read before it; frames that agree before a symbol have the same inputs, symbols and state
+-- An accepted symbol is that of a frame that agrees with the one read before it; frames that agree before a symbol have the same inputs and the same state
 -- there. Assumes of the settings that they are right.
 use mathlib.Core.Path.{_≡_, _∙_, refl, sym, ap, subst}
 use mathlib.Core.Bool.{true, cond}
