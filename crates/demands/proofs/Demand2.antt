@@ -2,7 +2,7 @@
 use mathlib.Core.Path.{_≡_, _∙_, refl, sym, ap, subst}
 use mathlib.Core.Bool.{true, cond}
 use mathlib.Core.List.{List, _++_}
-use Prim.Native.Nat.{ℕ, _+_, _-_, _*_, _/_, _<_, _≤_}
+use Prim.Native.Nat.{ℕ, _+_, _-_, _*_, _<_, _≤_}
 use native.Mathlib.Numerals.{add-one}
 use native.Mathlib.Omega.{arith}
 use borrow.Author.Tests.{eq-eqb}
@@ -30,10 +30,11 @@ use Rattle.acceptance.specs.declared.accept.Stepped.{Stepped}
 use Rattle.reader_state.specs.State.{openRaw}
 use Rattle.acceptance.specs.Accepted.{answered}
 use Rattle.reader.specs.Step.{stepOf, stepNumber}
+use Rattle.verdicts.proofs.StepCases.{accepted-zero}
 use Rattle.reader_runs.specs.Run.{stateBefore, answerTo, sliceAfter, memoryBefore}
 use Rattle.reader_runs.specs.Sent.{settingsFor, withSeed, FloatsSent, stateAfter, SentBy, Rooms}
 use Rattle.reader_runs.proofs.Steps.{sound, step-gives, step-agrees}
-use Rattle.reader_runs.proofs.Runs.{accepted-zero, floats-agree, run-state, run-takes, run-gives}
+use Rattle.reader_runs.proofs.Runs.{floats-agree, run-state, run-takes, run-gives}
 use Rattle.reader_runs.proofs.Memory.{bytesBefore, bytes-all, slice-filled, memory-whole}
 use Rattle.reader_runs.proofs.Payloads.{byte-back, first-bytes, payloadOf, payload-small, payload-bits, sent-payload, payload-sent}
 use Rattle.reader_runs.proofs.Unique.{seed-told, bytes-told}

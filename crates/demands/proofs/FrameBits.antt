@@ -8,7 +8,6 @@ use native.Mathlib.Omega.{arith}
 use borrow.Author.Tests.{eqb-true, eqb-false}
 use lib.Dec.{eqb}
 use lib.ListN.{length, getD}
-use Rattle.laws.specs.Claim.{_is_}
 use Rattle.laws.proofs.Search.{AllBelow, FirstFailing, search-below}
 use Rattle.chain.specs.DataBits.{payloadBit, payloadEnd}
 use Rattle.chain.specs.Scrambler.{scramblerBit}

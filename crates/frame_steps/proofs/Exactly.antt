@@ -31,7 +31,8 @@ use Rattle.reader_state.specs.State.{openRaw, startBy}
 use Rattle.reader.specs.Step.{stepNumber, stepSeed}
 use Rattle.reader_runs.specs.Sent.{settingsFor}
 use Rattle.reader_runs.proofs.Steps.{sound}
-use Rattle.reader_runs.proofs.Runs.{accepted-zero, run-takes, run-refused}
+use Rattle.verdicts.proofs.StepCases.{accepted-zero}
+use Rattle.reader_runs.proofs.Runs.{run-takes, run-refused}
 use Rattle.reader_runs.proofs.Payloads.{first-bytes}
 use Rattle.demands.specs.Demand2.{Begun, IsFrame}
 use Rattle.demands.proofs.Reading.{begun-ready}

@@ -2,14 +2,13 @@
 use mathlib.Core.Path.{_≡_, _∙_, refl, sym, ap, subst}
 use mathlib.Core.Bool.{Bool, true, false, cond}
 use mathlib.Core.List.{List}
-use mathlib.Core.Logic.{⊎-elim}
 use Prim.Native.Nat.{ℕ, _+_, _*_, _%_, _<_}
 use native.Mathlib.Nat.{mod-lt}
 use native.Mathlib.Omega.{arith}
-use lib.Dec.{eqb, ltb, leb}
+use lib.Dec.{ltb, leb}
 use lib.ListN.{length}
 use lib.Ieee.{Float}
-use Rattle.settings.specs.declared.settings.Refusal.the-variants.{Room, Code, Frame, Closed}
+use Rattle.settings.specs.declared.settings.Refusal.the-variants.{Room, Closed}
 use Rattle.settings.specs.declared.settings.Settings.{Settings}
 use Rattle.settings.specs.declared.settings.Checked.{Checked}
 use Rattle.settings.specs.declared.settings.Checked.the-variants.{Accepted, Refused}
@@ -26,51 +25,26 @@ use Rattle.reader_state.specs.declared.state.OpenSettings.{OpenSettings}
 use Rattle.reader_state.specs.declared.state.Reader.{Reader}
 use Rattle.reader_state.specs.declared.state.StartAnswer.{StartAnswer}
 use Rattle.reader_state.specs.declared.state.Started.{Started}
-use Rattle.acceptance.specs.declared.accept.StepAnswer.the-variants.{First, Next, Refused as StepRefused}
 use Rattle.acceptance.specs.declared.accept.Stepped.{Stepped}
 use Rattle.reader_place.specs.declared.place.PlaceAnswer.{PlaceAnswer}
 use Rattle.reader_place.specs.declared.place.PlaceAnswer.the-variants.{Refused as PlaceRefused}
-use Rattle.reader_state.specs.State.{openRaw, startBy, startOf, closedOf, endedOf}
-use Rattle.acceptance.specs.Accepted.{answered, scramblerFor, frameRight}
-use Rattle.reader.specs.Step.{bySearch, noRoom, stepOf, stepInto}
+use Rattle.reader_state.specs.State.{openRaw, startBy, startOf, closedOf}
+use Rattle.reader.specs.Step.{stepOf, stepInto}
 use Rattle.reader_place.specs.Place.{foundAs, placeBy, placeOf}
 use Rattle.reader.proofs.HearLaws.{place-few}
 use Rattle.conversions.specs.Results.{refusedResult}
-use Rattle.verdicts.specs.Statements.{InReach, settingsIn}
-use Rattle.verdicts.proofs.Refusals.{reach, step-open, heard, decoded, moved}
+use Rattle.verdicts.specs.Statements.{settingsIn}
+use Rattle.verdicts.proofs.StepCases.{step-by}
 use Rattle.reader_numbers.specs.Numbers.{readerOf, startedResult, startResult, steppedNumber, stepResult, stepResultInto, placedResult, placeResult, PlaceRight}
 
 -- the state after a step has a symbol below 2^16
 abbrev Small : Stepped → Type 0
 Small r = r .state .symbol < 65536
 
-small-code : (st m : Reader) (c f first : Bool) (k : ℕ) → st .symbol < 65536 → m .symbol < 65536
-    → Small (cond c (cond f (answered (cond first (First k) Next) m) (answered (StepRefused Frame) (endedOf st))) (answered (StepRefused Code) (endedOf st)))
-small-code st m true true first k h l = l
-small-code st m true false first k h l = h
-small-code st m false f first k h l = h
-
-small-search : (s : Settings) (st : Reader) (points : List Float) (x : Search) → st .symbol + 1 < 65536 → Small (bySearch x s st points)
-small-search s st points (At i f) h = omega (arith, h)
-small-search s st points AllGiven h =
-    small-code st (moved s st points) (decoded s st points) (frameRight s st (heard s st points)) (eqb (st .symbol) 0) (scramblerFor st (heard s st points))
-    (omega (arith, h)) h
-
-small-room : (st : Reader) (b : Bool) (x : Stepped) → st .symbol < 65536 → Small x → Small (cond b (answered (StepRefused Room) st) x)
-small-room st true x h l = h
-small-room st false x h l = l
-
 pub step-small : (st : Reader) (points : List Float) (bytes : ℕ) → st .symbol < 65536 → stepOf st points bytes .state .symbol < 65536
 step-small st points bytes h =
-    ⊎-elim
-    (λ (o : InReach st).
-    let s = settingsIn st in
-    let few = symbols-few s (right (openRaw (st .settings)) s (o .accepted)) in
-    subst Small (sym (step-open st points bytes o))
-    (small-room st (noRoom s (length points) bytes) (bySearch (searchOf (planFor s) points (s .format) (st .symbol)) s st points) h
-    (small-search s st points (searchOf (planFor s) points (s .format) (st .symbol)) (omega (arith, few, o .in-range .below-count)))))
-    (λ e. subst Small (sym e) h)
-    (reach st points bytes)
+    step-by Small st h h (λ i z. h) h h points bytes
+    (λ o. omega (arith, o .in-range .below-count, symbols-few (settingsIn st) (right (openRaw (st .settings)) (settingsIn st) (o .accepted))))
 
 -- a place that is answered is a subcarrier of the channel
 found-right : (s : Settings) → Right s → (points : List Float) (n : ℕ) (x : Search) → x ≡ searchOf (planFor s) points (s .format) n → PlaceRight (foundAs x s)

@@ -1,36 +1,35 @@
 -- An ended state stays: every step from it is 12, and changes nothing. A step keeps its settings, and room beyond the payload's length does not count.
 -- Assumes nothing.
 use mathlib.Core.Path.{_≡_, _∙_, refl, sym, ap}
-use mathlib.Core.Bool.{Bool, true, false, cond, _||_}
+use mathlib.Core.Bool.{Bool, true, cond, _||_}
 use mathlib.Core.List.{List}
 use mathlib.Core.Logic.{⊎-elim, _⊎_}
 use Prim.Native.Nat.{ℕ, zero, suc, _+_, _-_, _≤_}
 use native.Mathlib.Nat.{add-zero, add-suc}
 use native.Mathlib.Omega.{arith}
 use borrow.Author.Tests.{le-ltb}
-use lib.Dec.{eqb, ltb}
+use lib.Dec.{ltb}
 use lib.ListN.{length}
 use lib.Ieee.{Float}
 use Rattle.laws.proofs.Refusing.{true-not-false}
-use Rattle.settings.specs.declared.settings.Refusal.the-variants.{Room, Code, Frame, Closed}
+use Rattle.settings.specs.declared.settings.Refusal.the-variants.{Room, Closed}
 use Rattle.settings.specs.declared.settings.Settings.{Settings}
 use Rattle.settings.specs.declared.settings.Checked.{Checked}
 use Rattle.settings.specs.declared.settings.Checked.the-variants.{Accepted, Refused}
 use Rattle.settings.specs.Settings.{checkOf, planFor}
 use Rattle.settings.proofs.SettingsLaws.{passed}
 use Rattle.frame.specs.Points.{floatsOf}
-use Rattle.detector.specs.declared.search.Search.{Search}
-use Rattle.detector.specs.declared.search.Search.the-variants.{AllGiven, At}
 use Rattle.detector.specs.Detected.{searchOf}
 use Rattle.reader_state.specs.declared.state.OpenSettings.{OpenSettings}
 use Rattle.reader_state.specs.declared.state.Reader.{Reader}
-use Rattle.acceptance.specs.declared.accept.StepAnswer.the-variants.{First, Next, Refused as StepRefused}
+use Rattle.acceptance.specs.declared.accept.StepAnswer.the-variants.{Refused as StepRefused}
 use Rattle.acceptance.specs.declared.accept.Stepped.{Stepped}
-use Rattle.reader_state.specs.State.{openRaw, startBy, closedOf, endedOf}
-use Rattle.acceptance.specs.Accepted.{answered, scramblerFor, frameRight}
-use Rattle.reader.specs.Step.{bySearch, noRoom, stepBy, stepOf, stepInto, stepNumber}
-use Rattle.verdicts.specs.Statements.{InReach, settingsIn}
-use Rattle.verdicts.proofs.Refusals.{heard, decoded, moved, step-open, reach, refused-step-unchanged, refused-step-state}
+use Rattle.reader_state.specs.State.{openRaw, startBy, closedOf}
+use Rattle.acceptance.specs.Accepted.{answered}
+use Rattle.reader.specs.Step.{bySearch, stepBy, stepOf, stepInto, stepNumber}
+use Rattle.verdicts.specs.Statements.{InReach}
+use Rattle.verdicts.proofs.StepCases.{reach, step-by}
+use Rattle.verdicts.proofs.Refusals.{refused-step-unchanged, refused-step-state}
 use Rattle.reader_runs.specs.Run.{stateBefore, answerTo}
 
 -- ---- ended states
@@ -70,32 +69,8 @@ module _ (o : OpenSettings) (S : ℕ → List Float) (bytes : ℕ → ℕ) (n : 
 
 -- ---- settings are kept
 
-kept-code : (st m : Reader) (c f first : Bool) (k : ℕ) → m .settings ≡ st .settings
-    → cond c (cond f (answered (cond first (First k) Next) m) (answered (StepRefused Frame) (endedOf st))) (answered (StepRefused Code) (endedOf st)) .state .settings
-    ≡ st .settings
-kept-code st m true true first k e = e
-kept-code st m true false first k e = refl
-kept-code st m false f first k e = refl
-
-kept-search : (s : Settings) (st : Reader) (points : List Float) (x : Search) → bySearch x s st points .state .settings ≡ st .settings
-kept-search s st points (At i f) = refl
-kept-search s st points AllGiven =
-    kept-code st (moved s st points) (decoded s st points) (frameRight s st (heard s st points)) (eqb (st .symbol) 0) (scramblerFor st (heard s st points)) refl
-
-kept-room : (st : Reader) (b : Bool) (x : Stepped) → x .state .settings ≡ st .settings → cond b (answered (StepRefused Room) st) x .state .settings ≡ st .settings
-kept-room st true x e = refl
-kept-room st false x e = e
-
 step-kept : (st : Reader) (points : List Float) (bytes : ℕ) → stepOf st points bytes .state .settings ≡ st .settings
-step-kept st points bytes =
-    ⊎-elim
-    (λ (o : InReach st).
-    let s = settingsIn st in
-    let x = searchOf (planFor s) points (s .format) (st .symbol) in
-    ap (λ (r : Stepped). r .state .settings) (step-open st points bytes o)
-    ∙ kept-room st (noRoom s (length points) bytes) (bySearch x s st points) (kept-search s st points x))
-    (λ e. ap (λ (r : Stepped). r .state .settings) e)
-    (reach st points bytes)
+step-kept st points bytes = step-by (λ r. r .state .settings ≡ st .settings) st refl refl (λ i z. refl) refl refl points bytes (λ o. refl)
 
 pub start-kept : (x : Checked) (o : OpenSettings) → startBy x o .state .settings ≡ o
 start-kept (Accepted s) o = refl

@@ -39,11 +39,6 @@ use Rattle.reader_runs.specs.Sent.{settingsFor, sentInput, FloatsSent, s
 use Rattle.reader_runs.proofs.Finding.{agree-input}
 use Rattle.reader_runs.proofs.Steps.{sound, step-takes, step-writes, step-gives, step-refused}
 
--- an accepted symbol's number
-pub accepted-zero : (first : Bool) (seed : ℕ) → stepNumber (cond first (First seed) Next) ≡ 0
-accepted-zero true seed = refl
-accepted-zero false seed = refl
-
 -- symbols before one are those of every frame that agrees before it
 pub floats-agree : (s : Settings) → Right s → OpenSettings → (m : ℕ) (v : ℕ → ℕ) (seed : ℕ) (w : ℕ → ℕ) (seed′ : ℕ) → Agree s m v seed w seed′
     → (n : ℕ) → n < m → (points : List Float) → FloatsSent s v seed n points → FloatsSent s w seed′ n points

@@ -36,7 +36,8 @@ use Rattle.reader_state.specs.State.{InRange, openRaw, firstBit}
 use Rattle.acceptance.specs.Accepted.{answered, frameRight, bitsBefore, intoBy}
 use Rattle.reader.specs.Step.{bySearch, noRoom, stepOf, writtenBy, stepInto, stepNumber}
 use Rattle.verdicts.specs.Statements.{InReach}
-use Rattle.verdicts.proofs.Refusals.{heard, decoded, isAt, search-number, step-open}
+use Rattle.verdicts.proofs.StepCases.{heard, decoded, step-open}
+use Rattle.verdicts.proofs.Refusals.{isAt, search-number}
 use Rattle.verdicts.proofs.GivenLaws.{shown-bit}
 use Rattle.reader_runs.specs.Sent.{settingsFor, sentInput, FloatsSent, stateAfter, Agree, Found}
 use Rattle.verdicts.proofs.ShownLaws.{floats-given, floats-show, shown-floats}

@@ -1,3 +1,4 @@
 pub mod GivenLaws
+pub mod StepCases
 pub mod Refusals
 pub mod ShownLaws

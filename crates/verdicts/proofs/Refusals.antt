@@ -29,7 +29,8 @@ use Rattle.subcarriers.specs.Subcarriers.{placesOf, subcarrierAt}
 use Rattle.frame.specs.Points.{floatsOf}
 use Rattle.detector.specs.declared.search.Search.{Search}
 use Rattle.detector.specs.declared.search.Search.the-variants.{AllGiven, At}
-use Rattle.detector.specs.Detected.{pointGiven, searchOf, shownBit, PointByRules}
+use Rattle.detector.specs.Detected.{pointGiven, searchOf, PointByRules}
+use Rattle.reader_state.proofs.StateLaws.{not-closed}
 use Rattle.verdicts.specs.Searches.{AllPass, FirstFailing}
 use Rattle.verdicts.proofs.GivenLaws.{given-exactly as given-by-rules, search-cases, shown-bit}
 use Rattle.decoder.proofs.ExtLaws.{code-exactly}
@@ -42,12 +43,12 @@ use Rattle.acceptance.specs.declared.accept.StepAnswer.the-variants.{First, Nex
 use Rattle.acceptance.specs.declared.accept.Stepped.{Stepped}
 use Rattle.reader_place.specs.declared.place.PlaceAnswer.{PlaceAnswer}
 use Rattle.reader_place.specs.declared.place.PlaceAnswer.the-variants.{Passed, Found, Refused as PlaceRefused}
-use Rattle.reader_state.specs.State.{InRange, openRaw, startBy, startOf, startNumber, historyOf, firstBit, closedOf, endedOf}
-use Rattle.acceptance.specs.Accepted.{answered, scramblerFor, plainOf, frameRight, partLeft, intoBy, movedWith}
-use Rattle.reader.specs.Step.{historiesAfter, heardInput, bySearch, noRoom, stepBy, stepOf, writtenBy, stepNumber, stepStream, stepSubcarrier}
+use Rattle.reader_state.specs.State.{openRaw, startBy, startOf, startNumber, historyOf, firstBit, endedOf}
+use Rattle.acceptance.specs.Accepted.{answered, scramblerFor, plainOf, frameRight, intoBy, acceptedWith}
+use Rattle.reader.specs.Step.{bySearch, noRoom, stepOf, writtenBy, stepNumber, stepStream, stepSubcarrier}
 use Rattle.reader_place.specs.Place.{foundAs, placeBy, placeOf}
 use Rattle.verdicts.specs.Statements.{settingsIn, InReach, ClosedRow, RoomRow, PointRow, shownIn, inputIn, CodeRow, WrongBit, FrameRow, StepRefusals, FirstPlace, PlaceIsFirst, RefusedUnchanged, RefusedState, StartRefusals, PlaceTied}
-use Rattle.reader_state.proofs.StateLaws.{in-range, not-closed}
+use Rattle.verdicts.proofs.StepCases.{heard, decoded, moved, step-open, reach, accepted-zero, step-by}
 
 -- the tests that a row does not apply
 negated : {P : Type 0} (t : Bool) → (t ≡ true) ↔ P → (not t ≡ true) ↔ (P → ⊥)
@@ -123,20 +124,11 @@ code-number true false first k m e = refl
 code-number false f first k m e = refl
 
 module _ (s : Settings) (st : Reader) (points : List Float) where
-  -- the inputs that the points show
-  abbrev pub heard : ℕ → ℕ
-  heard d = heardInput s st (shownBit (planFor s) points) d
-
-  abbrev pub decoded : Bool
-  decoded = decodes (planFor s) (historyOf st) (shownBit (planFor s) points)
-
-  abbrev pub moved : Reader
-  moved = movedWith s st (historiesAfter s st heard) (scramblerFor st heard) (partLeft s (st .symbol) (st .part) (plainOf st heard))
-
   pub search-number : (x : Search) → stepNumber (bySearch x s st points .answer)
-      ≡ cond (isAt x) 9 (cond (not decoded) 10 (cond (not (frameRight s st heard)) 11 0))
+      ≡ cond (isAt x) 9 (cond (not (decoded s st points)) 10 (cond (not (frameRight s st (heard s st points))) 11 0))
   search-number (At i f) = refl
-  search-number AllGiven = code-number decoded (frameRight s st heard) (eqb (st .symbol) 0) (scramblerFor st heard) moved (endedOf st)
+  search-number AllGiven =
+      code-number (decoded s st points) (frameRight s st (heard s st points)) (eqb (st .symbol) 0) (scramblerFor st (heard s st points)) (moved s st points) (endedOf st)
 
 module _ (st : Reader) (points : List Float) (bytes : ℕ) (o : InReach st) where
   sound : Right (settingsIn st)
@@ -213,18 +205,9 @@ module _ (st : Reader) (points : List Float) (bytes : ℕ) (o : InReach st) wher
   room-number true x = refl
   room-number false x = refl
 
-  -- the step of a state in range
-  pub step-open : stepOf st points bytes
-      ≡ cond (noRoom (settingsIn st) (length points) bytes) (answered (StepRefused Room) st) (bySearch search (settingsIn st) st points)
-  step-open =
-      ap (λ (x : Checked). stepBy x st points bytes) (o .accepted)
-      ∙ ap (λ (b : Bool). cond b (answered (StepRefused Closed) st)
-      (cond (noRoom (settingsIn st) (length points) bytes) (answered (StepRefused Room) st) (bySearch search (settingsIn st) st points)))
-      (not-closed (settingsIn st) st (o .in-range))
-
   number-first : stepNumber (stepOf st points bytes .answer) ≡ firstOf (roomRule ∷ pointRule ∷ codeRule ∷ frameRule ∷ [])
   number-first =
-      ap (λ (r : Stepped). stepNumber (r .answer)) step-open
+      ap (λ (r : Stepped). stepNumber (r .answer)) (step-open st points bytes o)
       ∙ room-number (noRoom (settingsIn st) (length points) bytes) (bySearch search (settingsIn st) st points)
       ∙ ap (cond (noRoom (settingsIn st) (length points) bytes) 8) (search-number (settingsIn st) st points search)
 
@@ -239,27 +222,6 @@ module _ (st : Reader) (points : List Float) (bytes : ℕ) (o : InReach st) wher
   open-not-closed e =
       not-twelve (noRoom (settingsIn st) (length points) bytes) (isAt search) (not (decodes (planFor (settingsIn st)) (historyOf st) (shownIn st points)))
       (not (frameRight (settingsIn st) st (inputIn st points))) (sym number-first ∙ e)
-
--- a state is in range with its settings accepted, or a step from it is 12 and gives it back
-pub reach : (st : Reader) (points : List Float) (bytes : ℕ) → InReach st ⊎ (stepOf st points bytes ≡ answered (StepRefused Closed) st)
-reach st points bytes = by-check (checkOf (openRaw (st .settings))) refl
-  where
-    by-state : (s : Settings) → checkOf (openRaw (st .settings)) ≡ Accepted s → (b : Bool) → closedOf s st ≡ b
-        → InReach st ⊎ (stepOf st points bytes ≡ answered (StepRefused Closed) st)
-    by-state s e true c =
-        inr (ap (λ (x : Checked). stepBy x st points bytes) e
-        ∙ ap (λ (b : Bool). cond b (answered (StepRefused Closed) st)
-        (cond (noRoom s (length points) bytes) (answered (StepRefused Room) st) (bySearch (searchOf (planFor s) points (s .format) (st .symbol)) s st points))) c)
-    by-state s e false c =
-        let meant = passed (openRaw (st .settings)) s e .meant in
-        inl (record {
-          accepted = e ∙ ap Accepted (sym meant);
-          in-range = subst (λ (k : Settings). InRange k st) (sym meant) (in-range s st c);
-        })
-
-    by-check : (x : Checked) → checkOf (openRaw (st .settings)) ≡ x → InReach st ⊎ (stepOf st points bytes ≡ answered (StepRefused Closed) st)
-    by-check (Accepted s) e = by-state s e (closedOf s st) refl
-    by-check (Refused r) e = inr (ap (λ (x : Checked). stepBy x st points bytes) e)
 
 -- the step gives each refusal exactly when its row applies and none before it does
 pub step-refusals : StepRefusals
@@ -290,30 +252,26 @@ Beside st r =
     × ((stepNumber (r .answer) ≡ 9 → r .state ≡ endedOf st) × ((stepNumber (r .answer) ≡ 10 → r .state ≡ endedOf st)
     × (stepNumber (r .answer) ≡ 11 → r .state ≡ endedOf st))))
 
-beside-code : (st : Reader) (c f first : Bool) (k : ℕ) (m : Reader)
-    → Beside st (cond c (cond f (answered (cond first (First k) Next) m) (answered (StepRefused Frame) (endedOf st))) (answered (StepRefused Code) (endedOf st)))
-beside-code st true true true k m = (λ e. absurd (omega (arith, e)), (λ e. absurd (omega (arith, e)), (λ e. absurd (omega (arith, e)), (λ e. absurd (omega (arith, e)), λ e. absurd (omega (arith, e))))))
-beside-code st true true false k m = (λ e. absurd (omega (arith, e)), (λ e. absurd (omega (arith, e)), (λ e. absurd (omega (arith, e)), (λ e. absurd (omega (arith, e)), λ e. absurd (omega (arith, e))))))
-beside-code st true false first k m = (λ e. absurd (omega (arith, e)), (λ e. absurd (omega (arith, e)), (λ e. refl, (λ e. refl, λ e. refl))))
-beside-code st false f first k m = (λ e. absurd (omega (arith, e)), (λ e. absurd (omega (arith, e)), (λ e. refl, (λ e. refl, λ e. refl))))
-
-beside-search : (st : Reader) (s : Settings) (points : List Float) (x : Search) → Beside st (bySearch x s st points)
-beside-search st s points (At i f) = (λ e. absurd (omega (arith, e)), (λ e. absurd (omega (arith, e)), (λ e. refl, (λ e. refl, λ e. refl))))
-beside-search st s points AllGiven =
-    beside-code st (decoded s st points) (frameRight s st (heard s st points)) (eqb (st .symbol) 0) (scramblerFor st (heard s st points)) (moved s st points)
-
-beside-room : (st : Reader) (r : Bool) (x : Stepped) → Beside st x → Beside st (cond r (answered (StepRefused Room) st) x)
-beside-room st true x b = (λ e. refl, (λ e. refl, (λ e. absurd (omega (arith, e)), (λ e. absurd (omega (arith, e)), λ e. absurd (omega (arith, e))))))
-beside-room st false x b = b
-
 pub refused-step-state : RefusedState
 refused-step-state st points bytes =
-    ⊎-elim
-    (λ (o : InReach st). subst (Beside st) (sym (step-open st points bytes o))
-    (beside-room st (noRoom (settingsIn st) (length points) bytes) (bySearch (search st points bytes o) (settingsIn st) st points)
-    (beside-search st (settingsIn st) points (search st points bytes o))))
-    (λ e. subst (Beside st) (sym e) (λ e. refl, (λ e. refl, (λ e. absurd (omega (arith, e)), (λ e. absurd (omega (arith, e)), λ e. absurd (omega (arith, e)))))))
-    (reach st points bytes)
+    step-by (Beside st) st
+    (λ e. refl, (λ e. refl, (λ e. absurd (omega (arith, e)), (λ e. absurd (omega (arith, e)), λ e. absurd (omega (arith, e))))))
+    (λ e. refl, (λ e. refl, (λ e. absurd (omega (arith, e)), (λ e. absurd (omega (arith, e)), λ e. absurd (omega (arith, e))))))
+    (λ i z. ended (BadPoint i z) (omega arith) (omega arith))
+    (ended (StepRefused Code) (omega arith) (omega arith))
+    (ended (StepRefused Frame) (omega arith) (omega arith))
+    points bytes
+    (λ o. taken (acceptedWith st (scramblerFor st (heard (settingsIn st) st points))) (moved (settingsIn st) st points)
+    (accepted-zero (eqb (st .symbol) 0) (scramblerFor st (heard (settingsIn st) st points))))
+  where
+    ended : (a : StepAnswer) → 8 < stepNumber a → stepNumber a < 12 → Beside st (answered a (endedOf st))
+    ended a low high = (λ e. absurd (omega (arith, e, low)), (λ e. absurd (omega (arith, e, high)), (λ e. refl, (λ e. refl, λ e. refl))))
+
+    taken : (a : StepAnswer) (m : Reader) → stepNumber a ≡ 0 → Beside st (answered a m)
+    taken a m z = (
+      λ e. absurd (omega (arith, e, z)),
+      (λ e. absurd (omega (arith, e, z)), (λ e. absurd (omega (arith, e, z)), (λ e. absurd (omega (arith, e, z)), λ e. absurd (omega (arith, e, z))))),
+    )
 
 -- the place that 9 returns is the first of a point that is not given
 nine-found : (st : Reader) (s : Settings) (points : List Float) (x : Search) (i : ℕ) (z : ℤ) → bySearch x s st points .answer ≡ BadPoint i z
