@@ -7,7 +7,7 @@ use mir.Syntax.{w64}
 use mir.Val.{SFits, toZ, ofZ}
 use mir.Facts.{toZ-pos, toZ-ofZ}
 use Rattle.settings.specs.declared.settings.Refusal.{Refusal}
-use Rattle.settings.specs.declared.settings.Refusal.the-variants.{Width, Mcs, Format, Length, Seed, Source, Place, Room, Point, Code, Frame, Closed, SigCrc, SigForm}
+use Rattle.settings.proofs.SettingsLaws.{number-range}
 use Rattle.settings.specs.Settings.{numberOf}
 use Rattle.laws.specs.Integers.{minus}
 
@@ -32,17 +32,4 @@ pos-is n h = toZ-pos w64 {n = n} (omega arith)
 
 -- every refusal's number is small
 pub number-small : (r : Refusal) → numberOf r < 16
-number-small Width = omega arith
-number-small Mcs = omega arith
-number-small Format = omega arith
-number-small Length = omega arith
-number-small Seed = omega arith
-number-small Source = omega arith
-number-small Place = omega arith
-number-small Room = omega arith
-number-small Point = omega arith
-number-small Code = omega arith
-number-small Frame = omega arith
-number-small Closed = omega arith
-number-small SigCrc = omega arith
-number-small SigForm = omega arith
+number-small r = omega (arith, number-range r .1)

@@ -13,9 +13,8 @@ use lib.Dec.{eqb}
 use lib.ListN.{length, drop}
 use lib.Ieee.{Float}
 use Rattle.settings.specs.declared.settings.Refusal.{Refusal}
-use Rattle.settings.specs.declared.settings.Refusal.the-variants.{Width, Mcs, Format, Length, Seed, Source, Place, Room, Point, Code, Frame, Closed, SigCrc, SigForm}
 use Rattle.settings.specs.Settings.{numberOf}
-use Rattle.settings.proofs.SettingsLaws.{right}
+use Rattle.settings.proofs.SettingsLaws.{number-range, right}
 use Rattle.symbols.specs.Symbols.{symbolsOf}
 use Rattle.symbols.proofs.CountLaws.{symbols-some}
 use Rattle.frame.specs.Points.{floatsOf}
@@ -38,20 +37,7 @@ use Rattle.frame_steps.proofs.FrameLaws.{accepted-as}
 
 -- a refusal's number is not that of acceptance
 pub refusal-some : (r : Refusal) → numberOf r ≡ 0 → ⊥
-refusal-some Width e = omega (arith, e)
-refusal-some Mcs e = omega (arith, e)
-refusal-some Format e = omega (arith, e)
-refusal-some Length e = omega (arith, e)
-refusal-some Seed e = omega (arith, e)
-refusal-some Source e = omega (arith, e)
-refusal-some Place e = omega (arith, e)
-refusal-some Room e = omega (arith, e)
-refusal-some Point e = omega (arith, e)
-refusal-some Code e = omega (arith, e)
-refusal-some Frame e = omega (arith, e)
-refusal-some Closed e = omega (arith, e)
-refusal-some SigCrc e = omega (arith, e)
-refusal-some SigForm e = omega (arith, e)
+refusal-some r e = omega (arith, e, number-range r .0)
 
 -- before symbol n: all before it are accepted, and the state, the seed, the payload and the place are those that their steps lead to
 pub record Before (o : OpenSettings) (points : List Float) (payload₀ : List ℕ) (n : ℕ) (payload : List ℕ) (state : Reader) (seed at : ℕ) : Type 0 where

@@ -6,7 +6,6 @@ use native.Mathlib.Omega.{arith}
 use lib.ListN.{length, length-append, replicate}
 use Rattle.settings.specs.declared.settings.RawSettings.{RawSettings}
 use Rattle.settings.specs.declared.settings.Refusal.{Refusal}
-use Rattle.settings.specs.declared.settings.Refusal.the-variants.{Width, Mcs, Format, Length, Seed, Source, Place, Room, Point, Code, Frame, Closed, SigCrc, SigForm}
 use Rattle.settings.specs.declared.settings.Checked.{Checked}
 use Rattle.settings.specs.declared.settings.Checked.the-variants.{Accepted, Refused}
 use Rattle.symbols.specs.declared.count.Count.the-variants.{Symbols, Refused as CountRefused}
@@ -52,23 +51,6 @@ refused-pushed z a b r k q ea ek eb er = rw (er, eb, ea, ek) (simp pushed-all-ap
 pub accepted-pushed : (z a b c r : Row) (k : ℕ) (sig : List ℕ) → a ≡ pushedAll z (decimal k) → b ≡ pushed a 32 → c ≡ pushedAll b (hexBytes sig) → r ≡ pushed c 10
     → r ≡ pushedAll z (acceptedText k sig)
 accepted-pushed z a b c r k sig ea eb ec er = rw (er, ec, eb, ea) (simp pushed-all-append)
-
--- a refusal's number has at most two digits
-pub number-small : (r : Refusal) → numberOf r ≤ 14
-number-small Width = omega arith
-number-small Mcs = omega arith
-number-small Format = omega arith
-number-small Length = omega arith
-number-small Seed = omega arith
-number-small Source = omega arith
-number-small Place = omega arith
-number-small Room = omega arith
-number-small Point = omega arith
-number-small Code = omega arith
-number-small Frame = omega arith
-number-small Closed = omega arith
-number-small SigCrc = omega arith
-number-small SigForm = omega arith
 
 -- ---- the answer by the count
 

@@ -72,6 +72,16 @@ one-told : (e : Bool) → eqb (oneIf e) 1 ≡ e
 one-told true = refl
 one-told false = refl
 
+-- a state's number is below 2^49
+summed-small : (n h k z p e : ℕ) → n < 65536 → h < 256 → k < 256 → z < 256 → p < 256 → e < 2
+    → n + 65536 * h + 16777216 * k + 4294967296 * z + 1099511627776 * p + 281474976710656 * e < 562949953421312
+summed-small n h k z p e ln lh lk lz lp le = omega arith
+
+pub number-below : (o : OpenSettings) (n h k z p : ℕ) (e : Bool) → n < 65536 → h < 256 → k < 256 → z < 256 → p < 256
+    → stateNumber (record { settings = o; symbol = n; ended = e; histories = h ∷ (k ∷ []); scrambler = z; part = p }) < 562949953421312
+unfolding stateNumber
+number-below o n h k z p e ln lh lk lz lp = summed-small n h k z p (oneIf e) ln lh lk lz lp (one-small e)
+
 -- a state by its fields
 abbrev stateOf : OpenSettings → (symbol first second scrambler part : ℕ) → Bool → Reader
 stateOf o n h k z p e = record { settings = o; symbol = n; ended = e; histories = h ∷ (k ∷ []); scrambler = z; part = p }

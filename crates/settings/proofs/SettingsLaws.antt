@@ -10,10 +10,10 @@ use Rattle.laws.proofs.Refusing.{true-not-false}
 use Rattle.laws.proofs.Reflect.{or-false}
 use Rattle.chain.specs.Plan.{widths, encoderCounts, streamsOf, planOf, Planned, Fits}
 use Rattle.chain.proofs.Plans.{fits}
-use Rattle.settings.specs.Settings.{badWidth, badMcs, badFormat, badLength, badSeed, settingsOf, checkOf, encodersOf, planFor, Right}
+use Rattle.settings.specs.Settings.{numberOf, badWidth, badMcs, badFormat, badLength, badSeed, settingsOf, checkOf, encodersOf, planFor, Right}
 use Rattle.settings.specs.declared.settings.RawSettings.{RawSettings}
 use Rattle.settings.specs.declared.settings.Refusal.{Refusal}
-use Rattle.settings.specs.declared.settings.Refusal.the-variants.{Width, Mcs, Format, Length, Seed}
+use Rattle.settings.specs.declared.settings.Refusal.the-variants.{Width, Mcs, Format, Length, Seed, Source, Place, Room, Point, Code, Frame, Closed, SigCrc, SigForm}
 use Rattle.settings.specs.declared.settings.Settings.{Settings}
 use Rattle.settings.specs.declared.settings.Checked.the-variants.{Accepted, Refused}
 
@@ -102,3 +102,20 @@ planned-width s = refl
 pub planned-encoders : (s : Settings) → planFor s .encoders ≡ encodersOf (s .mcs)
 unfolding planFor planOf
 planned-encoders s = refl
+
+-- every refusal's number is one of document 01's table
+pub number-range : (r : Refusal) → (1 ≤ numberOf r) × (numberOf r ≤ 14)
+number-range Width = (omega arith, omega arith)
+number-range Mcs = (omega arith, omega arith)
+number-range Format = (omega arith, omega arith)
+number-range Length = (omega arith, omega arith)
+number-range Seed = (omega arith, omega arith)
+number-range Source = (omega arith, omega arith)
+number-range Place = (omega arith, omega arith)
+number-range Room = (omega arith, omega arith)
+number-range Point = (omega arith, omega arith)
+number-range Code = (omega arith, omega arith)
+number-range Frame = (omega arith, omega arith)
+number-range Closed = (omega arith, omega arith)
+number-range SigCrc = (omega arith, omega arith)
+number-range SigForm = (omega arith, omega arith)

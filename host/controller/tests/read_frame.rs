@@ -6,8 +6,8 @@
 mod common;
 
 use common::reading::{
-    edge_length, guarded, own_numbers, place_of, refused_settings, symbol, Damage, Edge, Frame,
-    Lent, GUARD,
+    any_room, edge_length, guarded, own_numbers, place_of, refused_settings, symbol, Damage, Edge,
+    Frame, Lent, GUARD,
 };
 use common::{
     any_settings, bits, count_from, second_open, typed_settings, widths_and_mcs, Draw, GOOD,
@@ -758,21 +758,9 @@ fn random_frames() {
 fn random_frame(frame: &Frame, frames: &mut Frames, draw: &mut Draw) {
     let mut open = frame.open;
     let mut symbols = frame.symbols.clone();
-    // Up to two kinds of damage; the code and the frame's form are damaged more often than the points.
     for _ in 0..draw.of(&[0, 1, 1, 1, 1, 2]) {
         let n = draw.below(symbols.len() as u64) as usize;
-        let form = [
-            Damage::ServiceBit,
-            Damage::TailBit,
-            Damage::PadBit,
-            Damage::OtherLength,
-        ];
-        let damage = match draw.below(3) {
-            0 => draw.of(&Damage::ALL),
-            1 => draw.of(&[Damage::OtherPoint, Damage::CodedBit, Damage::PayloadBit]),
-            _ => draw.of(&form),
-        };
-        damage.apply(frame, n, &mut symbols[n], draw);
+        Damage::any(draw).apply(frame, n, &mut symbols[n], draw);
     }
     // Symbols of another frame of the same settings, or of other ones, from somewhere on.
     if draw.below(8) == 0 {
@@ -803,13 +791,7 @@ fn random_frame(frame: &Frame, frames: &mut Frames, draw: &mut Draw) {
         }
         _ => {}
     }
-    let length = frame.payload.len();
-    let room = match draw.below(24) {
-        0 => draw.below(length as u64) as usize,
-        1 => length - 1,
-        2..=5 => length + 1 + draw.below(20) as usize,
-        _ => length,
-    };
+    let room = any_room(frame.payload.len(), draw);
     // Settings that are refused, or that are others than the frame's.
     match draw.below(24) {
         0 | 1 => open = refused_settings(open, 1 + draw.below(4), draw),

@@ -6,7 +6,7 @@
 mod common;
 
 use common::reading::{
-    any_state, edge_length, few_symbols, flip_label_bit, kind, number_of, own_numbers,
+    any_room, any_state, edge_length, few_symbols, flip_label_bit, kind, number_of, own_numbers,
     payload_bits_before, place_of, refused_settings, state_of, symbol, symbol_from, Both, Damage,
     Edge, Frame, Kind, Lent, ENDED, NO_STATE,
 };
@@ -799,20 +799,8 @@ fn random_step(frame: &Frame, both: &mut Both, draw: &mut Draw) -> RawStep {
             (frame.states[n], floats)
         }
     };
-    // Up to three kinds of damage; the code and the frame's form are damaged more often than the points.
     for _ in 0..draw.of(&[0, 1, 1, 1, 2, 3]) {
-        let form = [
-            Damage::ServiceBit,
-            Damage::TailBit,
-            Damage::PadBit,
-            Damage::OtherLength,
-        ];
-        let damage = match draw.below(3) {
-            0 => draw.of(&Damage::ALL),
-            1 => draw.of(&[Damage::OtherPoint, Damage::CodedBit, Damage::PayloadBit]),
-            _ => draw.of(&form),
-        };
-        damage.apply(frame, n, &mut floats, draw);
+        Damage::any(draw).apply(frame, n, &mut floats, draw);
     }
     match draw.below(24) {
         0 => floats.truncate(draw.below(floats.len() as u64) as usize),
@@ -820,13 +808,7 @@ fn random_step(frame: &Frame, both: &mut Both, draw: &mut Draw) -> RawStep {
         2 => floats.extend([f32::NAN; 5]),
         _ => {}
     }
-    let length = frame.payload.len();
-    let room = match draw.below(24) {
-        0 => draw.below(length as u64) as usize,
-        1 => length - 1,
-        2..=5 => length + 1 + draw.below(20) as usize,
-        _ => length,
-    };
+    let room = any_room(frame.payload.len(), draw);
     if draw.below(40) == 0 {
         open = refused_settings(open, 1 + draw.below(4), draw);
     }

@@ -401,6 +401,16 @@ impl Frame {
     }
 }
 
+/// Room for a payload of this length: mostly as much, at times more, or less.
+pub fn any_room(length: usize, draw: &mut Draw) -> usize {
+    match draw.below(24) {
+        0 => draw.below(length as u64) as usize,
+        1 => length - 1,
+        2..=5 => length + 1 + draw.below(20) as usize,
+        _ => length,
+    }
+}
+
 /// What is done to a symbol.
 #[derive(Clone, Copy, Debug, PartialEq, Eq)]
 pub enum Damage {
@@ -444,6 +454,21 @@ pub enum Damage {
 }
 
 impl Damage {
+    /// Any kind; the code and the frame's form are damaged more often than the points.
+    pub fn any(draw: &mut Draw) -> Damage {
+        let form = [
+            Damage::ServiceBit,
+            Damage::TailBit,
+            Damage::PadBit,
+            Damage::OtherLength,
+        ];
+        match draw.below(3) {
+            0 => draw.of(&Damage::ALL),
+            1 => draw.of(&[Damage::OtherPoint, Damage::CodedBit, Damage::PayloadBit]),
+            _ => draw.of(&form),
+        }
+    }
+
     pub const ALL: [Damage; 23] = [
         Damage::FloatBit,
         Damage::NegativeZero,

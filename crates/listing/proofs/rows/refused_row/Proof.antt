@@ -1,6 +1,7 @@
 -- `listing::rows::refused_row` meets its contract: the parts in their order. Assumes nothing.
 use native.Mathlib.Omega.{arith}
-use Rattle.listing.proofs.RowLaws.{size, number-small, refused-pushed}
+use Rattle.settings.proofs.SettingsLaws.{number-range}
+use Rattle.listing.proofs.RowLaws.{size, refused-pushed}
 use borrow.Author.Needs.{needs}
 use Rattle.listing.proofs.rows.refused_row.Statement.{statement}
 use Rattle.listing.proofs.rows.refused_row.Tie as tie
@@ -15,7 +16,7 @@ number-requires : tie.Need-number-requires
 number-requires c κs = search needs
 
 push-decimal-requires : tie.Need-push-decimal-requires
-push-decimal-requires c κs = omega (arith, size (c .before .push-text .ensures), number-small (c .before .before .before .args .r))
+push-decimal-requires c κs = omega (arith, size (c .before .push-text .ensures), number-range (c .before .before .before .args .r) .1)
 
 push-requires : tie.Need-push-requires
 push-requires c κs = omega (arith, size (c .before .before .push-text .ensures))

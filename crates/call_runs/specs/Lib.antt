@@ -1,0 +1,2 @@
+pub mod CallRun
+pub mod Statements

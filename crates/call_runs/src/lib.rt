@@ -1,0 +1,1 @@
+// The strict reader by its C calls, over the symbols of a frame: definitions and laws alone.
