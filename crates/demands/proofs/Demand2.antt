@@ -10,7 +10,7 @@ use lib.Dec.{eqb}
 use lib.ListN.{length, getD, take, drop}
 use lib.Seq.{ext-getD}
 use lib.Ieee.{Float, binary32, toBits}
-use Rattle.laws.proofs.Firsts.{length-firsts, fill-list}
+use Rattle.laws.proofs.Firsts.{length-firsts, firsts-ext, fill-list}
 use Rattle.laws.proofs.Search.{parts}
 use Rattle.chain.specs.DataBits.{payloadBit}
 use Rattle.chain.proofs.InputLaws.{payload-bit}
@@ -22,6 +22,7 @@ use Rattle.settings.proofs.SettingsLaws.{accepted-is, passed, right}
 use Rattle.symbols.specs.Symbols.{symbolsOf}
 use Rattle.symbols.proofs.CountLaws.{symbols-some}
 use Rattle.frame.specs.Points.{floatsOf}
+use Rattle.frame.specs.Compared.{SameSymbol}
 use Rattle.assembler.specs.Assembled.{byteOf}
 use Rattle.reader_state.specs.declared.state.OpenSettings.{OpenSettings}
 use Rattle.reader_state.specs.declared.state.Reader.{Reader}
@@ -117,37 +118,39 @@ demand-2b o S M m begun below room seed p (some, (most, (long, small))) gives n 
 
 -- ---- (c)
 
--- two frames with the same first m symbols
-told : (o : OpenSettings) → checkOf (openRaw o) ≡ Accepted (settingsFor o) → (S : ℕ → List Float) (m : ℕ) → 0 < m → m ≤ symbolsOf (settingsFor o)
-    → (seed seed′ : ℕ) (p q : List ℕ) → IsFrame o seed p → IsFrame o seed′ q
-    → ((n : ℕ) → n < m → FloatsSent (settingsFor o) (payloadBit p) seed n (S n)) → ((n : ℕ) → n < m → FloatsSent (settingsFor o) (payloadBit q) seed′ n (S n))
-    → (seed ≡ seed′) × ((j : ℕ) → j < bytesBefore (settingsFor o) m → getD p j 0 ≡ getD q j 0)
-told o ready S m some few seed seed′ p q (s1, (m1, (l1, b1))) (s2, (m2, (l2, b2))) sent sent′ =
-    let f = payload-sent (settingsFor o) S m seed p s1 m1 sent in
-    let h = payload-sent (settingsFor o) S m seed′ q s2 m2 sent′ in (
-      seed-told o ready S m some few f h,
-      λ j l.
-          let inside : j < o .length = omega (arith, l) in
-          sym (byte-back p j (b1 j (omega (arith, inside, l1)))) ∙ bytes-told o ready S m some few f h j l ∙ byte-back q j (b2 j (omega (arith, inside, l2))),
-    )
+-- the first m symbols are the frame's
+abbrev AllSent : (o : OpenSettings) (S : ℕ → List Float) (m seed : ℕ) (p : List ℕ) → Type 0
+AllSent o S m seed p = (n : ℕ) → n < m → FloatsSent (settingsFor o) (payloadBit p) seed n (S n)
 
--- payloads of one length that agree on every byte of it
-same-payload : (o : OpenSettings) (seed seed′ : ℕ) (p q : List ℕ) → IsFrame o seed p → IsFrame o seed′ q
-    → ((j : ℕ) → j < o .length → getD p j 0 ≡ getD q j 0) → p ≡ q
-same-payload o seed seed′ p q (s1, (m1, (l1, b1))) (s2, (m2, (l2, b2))) same = ext-getD 0 p q (l1 ∙ sym l2) (λ j l. same j (omega (arith, l, l1)))
+-- two frames with the same first m symbols
+module _ (o : OpenSettings) (ready : checkOf (openRaw o) ≡ Accepted (settingsFor o)) (S : ℕ → List Float) (m : ℕ) (some : 0 < m) (few : m ≤ symbolsOf (settingsFor o))
+    (seed seed′ : ℕ) (p q : List ℕ) (s1 : 1 ≤ seed) (m1 : seed ≤ 127) (s2 : 1 ≤ seed′) (m2 : seed′ ≤ 127)
+    (sent : AllSent o S m seed p) (sent′ : AllSent o S m seed′ q) where
+  same-seed : seed ≡ seed′
+  same-seed = seed-told o ready S m some few (payload-sent (settingsFor o) S m seed p s1 m1 sent) (payload-sent (settingsFor o) S m seed′ q s2 m2 sent′)
+
+  same-byte : (j : ℕ) → j < bytesBefore (settingsFor o) m → byteOf (payloadBit p) j ≡ byteOf (payloadBit q) j
+  same-byte = bytes-told o ready S m some few (payload-sent (settingsFor o) S m seed p s1 m1 sent) (payload-sent (settingsFor o) S m seed′ q s2 m2 sent′)
 
 pub demand-2c : Demand2c
 demand-2c o S m begun below seed seed′ p q (s1, (m1, (l1, b1))) (s2, (m2, (l2, b2))) gives gives′ =
     let ready = begun-ready o begun in
     let s = settingsFor o in
-    let both = told o ready S (m + 1) (omega arith) (omega (arith, below)) seed seed′ p q (s1, (m1, (l1, b1))) (s2, (m2, (l2, b2)))
-    (λ n l. gives-sent o ready seed s1 m1 p n (omega (arith, l1)) (omega (arith, l, below)) (S n) (gives n (omega (arith, l))))
-    (λ n l. gives-sent o ready seed′ s2 m2 q n (omega (arith, l2)) (omega (arith, l, below)) (S n) (gives′ n (omega (arith, l)))) in (
-      both .0,
+    let sent : AllSent o S (m + 1) seed p =
+    λ n l. gives-sent o ready seed s1 m1 p n (omega (arith, l1)) (omega (arith, l, below)) (S n) (gives n (omega (arith, l))) in
+    let sent′ : AllSent o S (m + 1) seed′ q =
+    λ n l. gives-sent o ready seed′ s2 m2 q n (omega (arith, l2)) (omega (arith, l, below)) (S n) (gives′ n (omega (arith, l))) in
+    let byte : (j : ℕ) → j < bytesBefore s (m + 1) → getD p j 0 ≡ getD q j 0 =
+    λ j l.
+    let inside : j < o .length = omega (arith, l) in
+    sym (byte-back p j (b1 j (omega (arith, inside, l1))))
+    ∙ same-byte o ready S (m + 1) (omega arith) (omega (arith, below)) seed seed′ p q s1 m1 s2 m2 sent sent′ j l
+    ∙ byte-back q j (b2 j (omega (arith, inside, l2))) in (
+      same-seed o ready S (m + 1) (omega arith) (omega (arith, below)) seed seed′ p q s1 m1 s2 m2 sent sent′,
       (
-        λ j inside early. both .1 j (omega (arith, inside, early)),
-        λ last. same-payload o seed seed′ p q (s1, (m1, (l1, b1))) (s2, (m2, (l2, b2)))
-            (λ j inside. both .1 j (omega (arith, inside, bytes-all s (sound o ready), ap (bytesBefore s) last))),
+        λ j inside early. byte j (omega (arith, inside, early)),
+        λ last. ext-getD 0 p q (l1 ∙ sym l2)
+            (λ j l. byte j (omega (arith, l, l1, bytes-all s (sound o ready), ap (bytesBefore s) last))),
       ),
     )
 
@@ -239,15 +242,19 @@ demand-2e = (steps-exactly, states-lead)
 
 -- ---- (f)
 
+-- accepted settings are accepted without their seed
+open-ready : (a : RawSettings) → checkOf a ≡ Accepted (settingsOf a) → checkOf (openRaw (withoutSeed a)) ≡ Accepted (settingsFor (withoutSeed a))
+open-ready a accepted =
+    let t = passed a (settingsOf a) accepted in
+    sym (accepted-is (openRaw (withoutSeed a)) (t .width) (t .mcs) (t .format) (t .length) refl)
+
 module _ (a : RawSettings) (accepted : checkOf a ≡ Accepted (settingsOf a)) (p : List ℕ) (whole : WholePayload a p) (out : ℕ → List Float)
     (slice : List ℕ) (enough : a .length ≤ length slice) where
   abbrev o : OpenSettings
   o = withoutSeed a
 
   ready : checkOf (openRaw o) ≡ Accepted (settingsFor o)
-  ready =
-      let t = passed a (settingsOf a) accepted in
-      sym (accepted-is (openRaw o) (t .width) (t .mcs) (t .format) (t .length) refl)
+  ready = open-ready a accepted
 
   in-range : Right (settingsOf a)
   in-range = right a (settingsOf a) accepted
@@ -294,15 +301,44 @@ demand-2f a p s accepted whole out room slice enough =
 
 -- ---- (g)
 
+-- two frames of one settings but for the seed
+abbrev ToldApart : (a a′ : RawSettings) (p q : List ℕ) (out out′ : ℕ → List Float) (s : Settings) → Type 0
+ToldApart a a′ p q out out′ s = ((n : ℕ) → (floatsOf s ≤ length (out n)) × (floatsOf s ≤ length (out′ n)))
+    → ((n : ℕ) → n < symbolsOf s → SameSymbol s (symbolsOfFrame a p out n) (symbolsOfFrame a′ q out′ n))
+    → (a .seed ≡ a′ .seed) × (take (a .length) p ≡ take (a .length) q)
+
+module _ (o : OpenSettings) (ready : checkOf (openRaw o) ≡ Accepted (settingsFor o)) (seed seed′ : ℕ) (p q : List ℕ) (s1 : 1 ≤ seed) (m1 : seed ≤ 127)
+    (s2 : 1 ≤ seed′) (m2 : seed′ ≤ 127) (w1 : WholePayload (withSeed o seed) p) (w2 : WholePayload (withSeed o seed′) q) (out out′ : ℕ → List Float) where
+  frames-told : ToldApart (withSeed o seed) (withSeed o seed′) p q out out′ (settingsFor o)
+  frames-told room same =
+      let s = settingsFor o in
+      let right = sound o ready in
+      let S = symbolsOfFrame (withSeed o seed) p out in
+      let sent : AllSent o S (symbolsOf s) seed p =
+      λ n l g h. ap (toBits binary32) (written-is o ready seed s1 m1 p n (w1 .0) l (out n) (room n .0) g h) in
+      let sent′ : AllSent o S (symbolsOf s) seed′ q =
+      λ n l g h. same n l g h ∙ ap (toBits binary32) (written-is o ready seed′ s2 m2 q n (w2 .0) l (out′ n) (room n .1) g h) in (
+        same-seed o ready S (symbolsOf s) (symbols-some s right) (omega arith) seed seed′ p q s1 m1 s2 m2 sent sent′,
+        sym (first-bytes p (o .length) (w1 .0) (w1 .1))
+            ∙ firsts-ext (byteOf (payloadBit p)) (byteOf (payloadBit q)) (o .length)
+            (λ j l. same-byte o ready S (symbolsOf s) (symbols-some s right) (omega arith) seed seed′ p q s1 m1 s2 m2 sent sent′ j (omega (arith, l, bytes-all s right)))
+            ∙ first-bytes q (o .length) (w2 .0) (w2 .1),
+      )
+
+meant-told : (a : RawSettings) → checkOf a ≡ Accepted (settingsOf a) → (seed′ : ℕ) → 1 ≤ seed′ → seed′ ≤ 127 → (p q : List ℕ) → WholePayload a p
+    → WholePayload (withSeed (withoutSeed a) seed′) q → (out out′ : ℕ → List Float) → ToldApart a (withSeed (withoutSeed a) seed′) p q out out′ (settingsOf a)
+unfolding symbolsOf planFor
+meant-told a accepted seed′ some most p q w1 w2 out out′ =
+    let r = right a (settingsOf a) accepted in
+    frames-told (withoutSeed a) (open-ready a accepted) (a .seed) seed′ p q (r .seed-some) (omega (arith, r .seed-most)) some most w1 w2 out out′
+
 pub demand-2g : Demand2g
-demand-2g o begun seed seed′ p q (s1, (m1, (l1, b1))) (s2, (m2, (l2, b2))) out out′ room same =
-    let ready = begun-ready o begun in
-    let s = settingsFor o in
-    let right = sound o ready in
-    let both = told o ready (symbolsOfFrame (withSeed o seed) p out) (symbolsOf s) (symbols-some s right) (omega arith) seed seed′ p q
-    (s1, (m1, (l1, b1))) (s2, (m2, (l2, b2)))
-    (λ n l g h. ap (toBits binary32) (written-is o ready seed s1 m1 p n (omega (arith, l1)) l (out n) (room n .0) g h))
-    (λ n l g h. same n l g h ∙ ap (toBits binary32) (written-is o ready seed′ s2 m2 q n (omega (arith, l2)) l (out′ n) (room n .1) g h)) in (
-      both .0,
-      same-payload o seed seed′ p q (s1, (m1, (l1, b1))) (s2, (m2, (l2, b2))) (λ j inside. both .1 j (omega (arith, inside, bytes-all s right))),
-    )
+demand-2g a a′ p q s s′ accepted accepted′ same w1 w2 out out′ room equal =
+    let meant = passed a s accepted .meant in
+    let r = right a′ (settingsOf a′) (accepted′ ∙ ap Accepted (sym (passed a′ s′ accepted′ .meant))) in
+    subst (λ (x : RawSettings). WholePayload x q → ((n : ℕ) → n < symbolsOf s → SameSymbol s (symbolsOfFrame a p out n) (symbolsOfFrame x q out′ n))
+    → (a .seed ≡ x .seed) × (take (a .length) p ≡ take (a .length) q))
+    (ap (λ (o : OpenSettings). withSeed o (a′ .seed)) same)
+    (λ w e. subst (ToldApart a (withSeed (withoutSeed a) (a′ .seed)) p q out out′) meant
+    (meant-told a (accepted ∙ ap Accepted (sym meant)) (a′ .seed) (r .seed-some) (omega (arith, r .seed-most)) p q w1 w out out′) room e)
+    w2 equal

@@ -156,10 +156,10 @@ Demand2f = (a : RawSettings) (p : List ℕ) (s : Settings) → checkOf a ≡ Acc
     → answerTo (withoutSeed a) (symbolsOfFrame a p out) (λ k. length slice) n ≡ cond (eqb n 0) (First (a .seed)) Next)
     × (memoryBefore (withoutSeed a) (symbolsOfFrame a p out) (λ k. length slice) (symbolsOf s) slice ≡ take (a .length) p ++ drop (a .length) slice)
 
--- ---- (g) corollary: two frames whose symbols are all equal have equal payloads and seeds
+-- ---- (g) corollary: two accepted frames, equal in every setting but the seed, whose symbols are all equal have equal payloads and seeds
 abbrev pub Demand2g : Type 0
-Demand2g = (o : OpenSettings) → Begun o → (seed seed′ : ℕ) (p q : List ℕ) → IsFrame o seed p → IsFrame o seed′ q
-    → (out out′ : ℕ → List Float) → ((n : ℕ) → (floatsOf (settingsFor o) ≤ length (out n)) × (floatsOf (settingsFor o) ≤ length (out′ n)))
-    → ((n : ℕ) → n < symbolsOf (settingsFor o)
-    → SameSymbol (settingsFor o) (symbolsOfFrame (withSeed o seed) p out n) (symbolsOfFrame (withSeed o seed′) q out′ n))
-    → (seed ≡ seed′) × (p ≡ q)
+Demand2g = (a a′ : RawSettings) (p q : List ℕ) (s s′ : Settings) → checkOf a ≡ Accepted s → checkOf a′ ≡ Accepted s′ → withoutSeed a ≡ withoutSeed a′
+    → WholePayload a p → WholePayload a′ q
+    → (out out′ : ℕ → List Float) → ((n : ℕ) → (floatsOf s ≤ length (out n)) × (floatsOf s ≤ length (out′ n)))
+    → ((n : ℕ) → n < symbolsOf s → SameSymbol s (symbolsOfFrame a p out n) (symbolsOfFrame a′ q out′ n))
+    → (a .seed ≡ a′ .seed) × (take (a .length) p ≡ take (a .length) q)
