@@ -1,10 +1,10 @@
 -- Demand 2 of the reader's C calls: "The reader, begun by its start and handed back each state as it was returned, accepts symbols exactly when some payload and
 -- seed give them, and returns that payload and seed." The words are those of crates/demands/specs/Demand2; the terms are in proofs/CallRuns.
 use mathlib.Core.Path.{_≡_}
-use mathlib.Core.List.{List, _++_}
+use mathlib.Core.List.{List}
 use mathlib.Core.Logic.{_↔_}
 use Prim.Native.Nat.{ℕ, _<_, _≤_}
-use lib.ListN.{length, getD, drop}
+use lib.ListN.{length, getD}
 use lib.IntN.{pos}
 use lib.Ieee.{Float}
 use Rattle.symbols.specs.Symbols.{symbolsOf}
@@ -16,7 +16,7 @@ use Rattle.reader_runs.specs.Run.{answerTo, sliceAfter}
 use Rattle.reader_runs.specs.Sent.{settingsFor}
 use Rattle.demands.specs.Demand2.{Begun, IsFrame, GivesSymbol, lengths, RoomAt, CompleteWith}
 use Rattle.frame_steps.specs.WholeFrame.{readFrameOf, readFrameInto}
-use Rattle.frame_steps.specs.Statements.{RoomForFrame, GivesFrame}
+use Rattle.frame_steps.specs.Statements.{ReadsShowing}
 use Rattle.frame_reader.specs.Result.{frameResult}
 use Rattle.call_runs.specs.CallRun.{numberIn, seedIn, resultOf, sliceLeft}
 
@@ -47,13 +47,7 @@ CallsExactly = (o : OpenSettings) (first : ℕ) (S : ℕ → List Float) (M : �
     × (((j : ℕ) → CompleteWith o n j → getD (sliceLeft o first S (lengths M) n (M n)) j 0 ≡ getD p j 0)
     × ((j : ℕ) → (CompleteWith o n j → ⊥) → getD (sliceLeft o first S (lengths M) n (M n)) j 0 ≡ getD (M n) j 0))))
 
--- the same of `ht_read_frame`: the result is a seed exactly where some payload and seed give the frame's symbols, and then it is that seed and the lent payload
--- begins with that payload; a negative result changes nothing
+-- and of `ht_read_frame`, whose result shows a seed as a number that is not negative
 abbrev pub FrameCallExactly : Type 0
-FrameCallExactly = (o : OpenSettings) (points : List Float) (payload : List ℕ) →
-    let result = frameResult (readFrameOf o points (length payload)) in
-    let left = readFrameInto o points payload in
-    (Begun o → RoomForFrame o (length points) (length payload)
-    → (((k : ℕ) × (result ≡ pos k)) ↔ ((seed : ℕ) × ((p : List ℕ) × (IsFrame o seed p × GivesFrame o seed p points))))
-    × ((seed : ℕ) (p : List ℕ) → IsFrame o seed p → GivesFrame o seed p points → (result ≡ pos seed) × (left ≡ p ++ drop (o .length) payload)))
-    × (((k : ℕ) → result ≡ pos k → ⊥) → left ≡ payload)
+FrameCallExactly = (o : OpenSettings) (points : List Float) (payload : List ℕ)
+    → ReadsShowing (λ seed. frameResult (readFrameOf o points (length payload)) ≡ pos seed) o points payload (readFrameInto o points payload)

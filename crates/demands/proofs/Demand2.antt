@@ -48,8 +48,8 @@ use Rattle.demands.proofs.Reading.{begun-ready, written-is, written-lon
 abbrev pub gives-all : (o : OpenSettings) → checkOf (openRaw o) ≡ Accepted (settingsFor o) → (S : ℕ → List Float) (m : ℕ) → m ≤ symbolsOf (settingsFor o)
     → (seed : ℕ) (p : List ℕ) → IsFrame o seed p → ((n : ℕ) → n < m → GivesSymbol o seed p n (S n)) → SentBy (settingsFor o) S m
 gives-all o ready S m few seed p frame gives =
-    payload-sent (settingsFor o) S m seed p (frame .0) (frame .1 .0)
-    (λ n l. gives-sent o ready seed (frame .0) (frame .1 .0) p n (omega (arith, frame .1 .1 .0)) (omega (arith, l, few)) (S n) (gives n l))
+    payload-sent (settingsFor o) S m seed p (omega (arith, frame .0)) (omega (arith, frame .1 .0))
+    (λ n l. gives-sent o ready seed (omega (arith, frame .0)) (omega (arith, frame .1 .0)) p n (omega (arith, frame .1 .1 .0)) (omega (arith, l, few)) (S n) (gives n l))
 
 -- ---- (a)
 

@@ -26,14 +26,18 @@ RoomForFrame o floats bytes = (symbolsOf (settingsFor o) * floatsOf (settingsFor
 abbrev pub GivesFrame : (o : OpenSettings) (seed : ℕ) (p : List ℕ) (points : List Float) → Type 0
 GivesFrame o seed p points = (n : ℕ) → n < symbolsOf (settingsFor o) → GivesSymbol o seed p n (symbolAt (settingsFor o) points n)
 
--- demand 2 of the slices: the frame is read "exactly when some payload and seed give" its symbols, the answer has that seed and the lent payload that
--- payload, the bytes past it as they were; and where the frame is not read nothing is written
-abbrev pub ReadsFrame : (o : OpenSettings) (points : List Float) (r : FrameAnswer) (payload payload′ : List ℕ) → Type 0
-ReadsFrame o points r payload payload′ =
+-- demand 2 of the slices: the answer shows a seed "exactly when some payload and seed give" the frame's symbols, and then it is that seed, and the lent payload
+-- has that payload, the bytes past it as they were; and where it shows none nothing is written
+abbrev pub ReadsShowing : (Shows : (seed : ℕ) → Type 0) (o : OpenSettings) (points : List Float) (payload payload′ : List ℕ) → Type 0
+ReadsShowing Shows o points payload payload′ =
     (Begun o → RoomForFrame o (length points) (length payload)
-    → (((seed : ℕ) × (r ≡ Read seed)) ↔ ((seed : ℕ) × ((p : List ℕ) × (IsFrame o seed p × GivesFrame o seed p points))))
-    × ((seed : ℕ) (p : List ℕ) → IsFrame o seed p → GivesFrame o seed p points → (r ≡ Read seed) × (payload′ ≡ p ++ drop (o .length) payload)))
-    × (((seed : ℕ) → r ≡ Read seed → ⊥) → payload′ ≡ payload)
+    → (((seed : ℕ) × Shows seed) ↔ ((seed : ℕ) × ((p : List ℕ) × (IsFrame o seed p × GivesFrame o seed p points))))
+    × ((seed : ℕ) (p : List ℕ) → IsFrame o seed p → GivesFrame o seed p points → Shows seed × (payload′ ≡ p ++ drop (o .length) payload)))
+    × (((seed : ℕ) → Shows seed → ⊥) → payload′ ≡ payload)
+
+-- the library's answer shows it as `Read seed`
+abbrev pub ReadsFrame : (o : OpenSettings) (points : List Float) (r : FrameAnswer) (payload payload′ : List ℕ) → Type 0
+ReadsFrame o points r payload payload′ = ReadsShowing (λ seed. r ≡ Read seed) o points payload payload′
 
 -- the settings' refusals, then 8, then 9, 10 or 11 of the first symbol that is refused, with its number
 abbrev pub FrameRefusals : Type 0

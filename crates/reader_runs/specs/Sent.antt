@@ -87,7 +87,7 @@ pub record SentBy (s : Settings) (S : ℕ → List Float) (m : ℕ) : Type 0 whe
   pub v : ℕ → ℕ
   pub seed : ℕ
   pub bits : (k : ℕ) → v k < 2
-  pub seed-some : 0 < seed
+  pub seed-some : 1 ≤ seed
   pub seed-small : seed < 128
   pub sent : (n : ℕ) → n < m → FloatsSent s v seed n (S n)
 
