@@ -1,6 +1,5 @@
 -- Demand 2 of the reader: "The reader, begun by its start and handed back each state as it was returned, accepts symbols exactly when some payload and seed
--- give them, and returns that payload and seed." The terms are in proofs/Demand2; `read_frame` (crate
--- frame_reader) promises the same of its own slices.
+-- give them, and returns that payload and seed." The terms are in proofs/Demand2; `read_frame` (crate frame_reader) promises the same of its own slices.
 use mathlib.Core.Path.{_≡_}
 use mathlib.Core.Bool.{cond}
 use mathlib.Core.List.{List, _++_}

@@ -15,7 +15,7 @@ use Rattle.modulator.specs.Symbol.{turnedIf}
 use Rattle.demapper.specs.declared.point.PointLabels.{PointLabels}
 use Rattle.demapper.specs.Demapped.{sameBits, firstLabel, secondLabel, dataGiven, pointBit}
 
--- a number below 32 that tells the eight levels' bit patterns apart: the last exponent bit, three bits of the fraction, and the sign
+-- a number below 32 that tells the eight levels' bit patterns apart: the last two exponent bits, the first two of the fraction, and the sign
 abbrev pub keyOf : (pattern : ℕ) → ℕ
 keyOf pattern = pattern / 0x200000 % 16 + 16 * (pattern / 0x80000000)
 

@@ -74,19 +74,19 @@ right a s p =
 
 -- ---- the plan of accepted settings
 
-pub encoders-in : (m : ℕ) → T (among encoderCounts (encodersOf m))
-encoders-in m = go (ltb (streamsOf m) 3)
+-- what holds of one encoder and of two holds of every MCS's
+encoders-by : (P : ℕ → Type 0) (m : ℕ) → P 1 → P 2 → P (encodersOf m)
+encoders-by P m one two = go (ltb (streamsOf m) 3)
   where
-    go : (b : Bool) → T (among encoderCounts (cond b 1 2))
-    go true = tt
-    go false = tt
+    go : (b : Bool) → P (cond b 1 2)
+    go true = one
+    go false = two
+
+pub encoders-in : (m : ℕ) → T (among encoderCounts (encodersOf m))
+encoders-in m = encoders-by (λ e. T (among encoderCounts e)) m tt tt
 
 pub encoders-few : (m : ℕ) → encodersOf m ≤ 2
-encoders-few m = go (ltb (streamsOf m) 3)
-  where
-    go : (b : Bool) → cond b 1 2 ≤ 2
-    go true = omega arith
-    go false = omega arith
+encoders-few m = encoders-by (λ e. e ≤ 2) m (omega arith) (omega arith)
 
 pub planned : (s : Settings) → Right s → Planned (s .width) (s .mcs) (encodersOf (s .mcs))
 planned s r = record { width = r .width; mcs = r .mcs; encoders = encoders-in (s .mcs) }

@@ -29,8 +29,8 @@ fn played(settings: Settings, payload: &[u8]) -> Vec<u8> {
     bytes
 }
 
-fn read(bytes: &[u8]) -> Result<(u8, Vec<u8>), String> {
-    read_back(&mut &*bytes).map_err(|error| error.to_string())
+fn read(settings: Settings, bytes: &[u8]) -> Result<(u8, Vec<u8>), String> {
+    read_back(settings, &mut &*bytes).map_err(|error| error.to_string())
 }
 
 #[test]
@@ -40,9 +40,10 @@ fn through_a_file() {
     let file = TemporaryFile(env::temp_dir().join(format!("ht-frame-{}", process::id())));
     let mut writer = BufWriter::new(File::create(&file.0).unwrap());
     play(settings, &payload, &mut writer).unwrap();
-    // Seven bytes of settings, then four symbols of 912 floats.
-    assert_eq!(fs::metadata(&file.0).unwrap().len(), 7 + 4 * 912 * 4);
-    let (seed, read) = read_back(&mut BufReader::new(File::open(&file.0).unwrap())).unwrap();
+    // Four symbols of 912 floats.
+    assert_eq!(fs::metadata(&file.0).unwrap().len(), 4 * 912 * 4);
+    let mut reader = BufReader::new(File::open(&file.0).unwrap());
+    let (seed, read) = read_back(settings, &mut reader).unwrap();
     assert_eq!((u32::from(seed), read), (settings.seed, payload));
 }
 
@@ -53,7 +54,7 @@ fn every_width_and_mcs() {
         let length = 1 + draw.below(300) as u32;
         let payload = draw.bytes(length as usize);
         let settings = typed_settings(width, mcs, length, &mut draw);
-        let read = read(&played(settings, &payload));
+        let read = read(settings, &played(settings, &payload));
         assert_eq!(read, Ok((settings.seed as u8, payload)), "{settings:?}");
     }
 }
@@ -62,25 +63,17 @@ fn every_width_and_mcs() {
 fn a_file_that_is_no_frame_is_refused() {
     let mut draw = Draw::new(0x0DD);
     let payload = draw.bytes(20);
-    let file = played(typed_settings(20, 0, 20, &mut draw), &payload);
+    let settings = typed_settings(20, 0, 20, &mut draw);
+    let file = played(settings, &payload);
     let last = file.len() - 1;
-    let changed = |place: usize, byte: u8| {
-        let mut bytes = file.clone();
-        assert_ne!(bytes[place], byte);
-        bytes[place] = byte;
-        read(&bytes)
-    };
-    let refused = |words: &str| Err(words.to_string());
-    assert_eq!(changed(0, 1), refused("refusal 13 SIGCRC"));
-    assert_eq!(changed(6, 2), refused("refusal 3 FORMAT"));
     // The second level of the highest subcarrier becomes a negative zero.
-    let place = "refusal 9 POINT at stream 0, subcarrier 28";
-    assert_eq!(changed(last, 0x80), refused(place));
-    assert!(read(&file[..last]).is_err());
-    assert!(read(&file[..6]).is_err());
-    let longer = [&file[..], &[0]].concat();
-    assert_eq!(read(&longer), refused("bytes after the last symbol"));
-    assert_eq!(read(&file).map(|(_, read)| read), Ok(payload));
+    let mut changed = file.clone();
+    assert_eq!(changed[last], 0);
+    changed[last] = 0x80;
+    let refused = Err("refusal 9 POINT at stream 0, subcarrier 28".to_string());
+    assert_eq!(read(settings, &changed), refused);
+    assert!(read(settings, &file[..last]).is_err());
+    assert_eq!(read(settings, &file).map(|(_, read)| read), Ok(payload));
 }
 
 #[test]
