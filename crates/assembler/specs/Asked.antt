@@ -9,8 +9,6 @@ use Rattle.assembler.specs.Assembled.{payloadBefore, knownBit}
 pub record CopyAsked (line plain : List ℕ) (to from count : ℕ) : Type 0 where
   pub room : to + count ≤ length line
   pub whole-plain : from + count ≤ length plain
-  pub to-few : to ≤ 8
-  pub from-few : from ≤ 2160
   pub few : count ≤ 2160
 
 -- a line of payload bits from the first of the byte that the symbol's first payload bit is in

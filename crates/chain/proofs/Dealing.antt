@@ -33,11 +33,6 @@ pub inputs-bit : (hs : ℕ → ℕ) (c : ℕ → ℕ → ℕ) (e q d : ℕ) → 
 unfolding inputsOf
 inputs-bit hs c e q d = forced-bit _ _ _ _
 
--- a kept bit of the machine is a bit
-pub coded-bit : (h : ℕ) (x : ℕ → ℕ) (q i : ℕ) → codedAfter h x q i < 2
-unfolding codedAfter
-coded-bit h x q i = sum-bit _ _ _
-
 -- the inputs X after the histories hs give the kept bits c: bit i of encoder j is c j i
 abbrev pub Gives : (hs X : ℕ → ℕ) (c : ℕ → ℕ → ℕ) (encoders kept groups : ℕ) → Type 0
 Gives hs X c encoders kept groups = (j i : ℕ) → j < encoders → i < kept * groups → c j i ≡ codedAfter (hs j) (dealt X encoders j) kept i

@@ -15,7 +15,7 @@ use Rattle.chain.specs.Decoder.{historyAfter, dealt, codedIn, decodedInp
 use Rattle.chain.proofs.Counts.{encoders-some, kept-low}
 use Rattle.chain.proofs.KeptLaws.{step-below}
 use Rattle.chain.proofs.Window.{share-is}
-use Rattle.chain.proofs.Dealing.{Gives, history-ext, coded-ext, coded-bit, inputs-bit, inputs-back, checks-back, checks-give}
+use Rattle.chain.proofs.Dealing.{Gives, history-ext, coded-ext, inputs-bit, inputs-back, checks-back, checks-give}
 use Rattle.chain.proofs.Machine.{history-small, history-after, symbol-is}
 use Rattle.chain.proofs.ParserLaws.{parses}
 use Rattle.chain.proofs.InterleaverLaws.{interleaves-plan}
@@ -23,11 +23,6 @@ use Rattle.chain.proofs.InterleaverLaws.{interleaves-plan}
 -- a decoded input is a bit
 pub decoded-bit : (p : Plan) (hs : ℕ → ℕ) (lab : ℕ → ℕ → ℕ) (d : ℕ) → decodedInput p hs lab d < 2
 decoded-bit p hs lab d = inputs-bit hs (codedIn p lab) (p .encoders) (p .kept) d
-
--- a label bit of the machine is a bit
-pub after-bit : (p : Plan) (hs X : ℕ → ℕ) (i r : ℕ) → labelAfter p hs X i r < 2
-unfolding labelAfter
-after-bit p hs X i r = coded-bit _ _ _ _
 
 -- a history before a symbol is six bits
 pub history-lt : (p : Plan) (x : ℕ → ℕ) (n j : ℕ) → historyBefore p x n j < 64
@@ -160,11 +155,6 @@ module _ (p : Plan) (fits : Fits p) where
       → decodedInput p (historyBefore p x n) (labelBit p x n) d ≡ x (n * p .dbps + d)
   decode-labels x bits n =
       given-decode (historyBefore p x n) (λ d. x (n * p .dbps + d)) (labelBit p x n) (λ d l. bits _) (λ i r h l. label-after x bits n i r)
-
-  -- and pass the test
-  pub labels-decode : (x : ℕ → ℕ) → ((d : ℕ) → x d < 2) → (n : ℕ) → T (decodes p (historyBefore p x n) (labelBit p x n))
-  labels-decode x bits n =
-      given-decodes (historyBefore p x n) (λ d. x (n * p .dbps + d)) (labelBit p x n) (λ d l. bits _) (λ i r h l. label-after x bits n i r)
 
   -- forced: after equal histories, equal label bits of a symbol are of equal inputs
   pub labels-force : (x y : ℕ → ℕ) → ((d : ℕ) → x d < 2) → ((d : ℕ) → y d < 2) → (n : ℕ)

@@ -42,13 +42,12 @@ pub rows-as-printed : Holds printedClaim
 unfolding byRows columns rows blockOf
 rows-as-printed = sound printedClaim tt
 
--- what the third permutation takes away: less than the block, and whole half labels, as the block is
+-- what the third permutation takes away is less than the block
 abbrev shiftClaim : Claim
-shiftClaim = each widths λ w. each bitCounts λ b. upTo 4 λ i.
-    shiftOf w b i under blockOf w b and shiftOf w b i is axisBits b * (shiftOf w b i / axisBits b)
+shiftClaim = each widths λ w. each bitCounts λ b. upTo 4 λ i. shiftOf w b i under blockOf w b
 
 shifts : Holds shiftClaim
-unfolding shiftOf rotation blockOf axisBits
+unfolding shiftOf rotation blockOf
 shifts = sound shiftClaim tt
 
 abbrev blockClaim : Claim
@@ -70,11 +69,7 @@ block-axis w b hw hb = blocks w hw b hb
 module _ (w b i : ℕ) (hw : T (among widths w)) (hb : T (among bitCounts b)) (hi : i < 4) where
   -- a rotation is less than the block
   pub shift-lt : shiftOf w b i < blockOf w b
-  shift-lt = shifts w hw b hb i hi .0
-
-  -- a rotation is a whole number of half labels
-  pub shift-axis : shiftOf w b i ≡ axisBits b * (shiftOf w b i / axisBits b)
-  shift-axis = shifts w hw b hb i hi .1
+  shift-lt = shifts w hw b hb i hi
 
   -- the inverse found by looking is the closed one
   pub source-is : (r : ℕ) → r < blockOf w b → source w b i r ≡ sourceForm w b i r

@@ -1,7 +1,7 @@
 -- The call's parts together: inputs of the symbol's window, coded bits of that line, and labels from those bits are the definition's half labels.
 use mathlib.Core.Path.{_≡_, _∙_, sym}
 use mathlib.Core.List.{List}
-use Prim.Native.Nat.{ℕ, _+_, _-_, _*_, _<_, _≤_, _^_}
+use Prim.Native.Nat.{ℕ, _+_, _*_, _<_, _≤_, _^_}
 use native.Mathlib.Nat.{mul-le-mul}
 use native.Mathlib.Omega.{arith}
 use lib.ListN.{getD}
@@ -24,10 +24,7 @@ use Rattle.coding.specs.Halves.{labelIn, halfIn, HalvesFilled}
 -- the sizes of a call
 pub record Sizes (p : Plan) (n : ℕ) : Type 0 where
   pub two : p .encoders ≤ 2
-  pub data-some : 26 ≤ p .dbps
-  pub data-most : p .dbps ≤ 2160
   pub first : n * p .dbps ≤ 2 ^ 27
-  pub inputs-is : p .encoders * ((p .kept - 1) * groupsOf p) ≡ p .dbps
   pub coded-is : p .encoders * (p .kept * groupsOf p) ≡ p .coded
   pub coded-most : p .coded ≤ 2592
 
@@ -35,10 +32,7 @@ pub sizes : (p : Plan) (n : ℕ) → Fits p → n ≤ 32768 → Sizes p n
 sizes p n f h =
     record {
       two = encoders-most (p .encoders) (f .encoders);
-      data-some = f .dbps-some;
-      data-most = f .dbps-most;
       first = omega (arith, mul-le-mul h (f .dbps-most));
-      inputs-is = sym (f .dbps-groups);
       coded-is = sym (f .coded-groups);
       coded-most = f .coded-most;
     }

@@ -7,7 +7,7 @@ use Prim.Native.Nat.{ℕ, _+_, _-_, _*_, _/_, _%_, _^_, _<_, _≤_}
 use native.Mathlib.Omega.{arith}
 use borrow.Author.Tests.{eqb-true, eqb-false}
 use lib.Dec.{eqb}
-use lib.ListN.{length, getD}
+use lib.ListN.{getD}
 use Rattle.laws.proofs.Search.{AllBelow, FirstFailing, search-below}
 use Rattle.chain.specs.DataBits.{payloadBit, payloadEnd}
 use Rattle.chain.specs.Scrambler.{scramblerBit}

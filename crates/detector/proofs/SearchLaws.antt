@@ -11,7 +11,7 @@ use borrow.Author.Tests.{lt-ltb, le-ltb}
 use lib.Arith.{digits-lt}
 use lib.Dec.{T, eqb, ltb, leb}
 use lib.ListN.{length, getD}
-use lib.IntN.{ℤ, _*ℤ_}
+use lib.IntN.{_*ℤ_}
 use lib.Ieee.{Float, nan}
 use Rattle.laws.specs.Test.{among}
 use Rattle.laws.specs.Claim.{Claim, _is_, _under_, _and_, upTo, each, Holds, sound}

@@ -59,13 +59,11 @@ module _ {inputs coded : List ℕ} {h q n base e j : ℕ} (p : EncoderAsked inpu
   -- the numbers of a turn
   pub record Turn (g i to : ℕ) : Type 0 where
     pub kept-low : 2 ≤ q
-    pub kept-high : q ≤ 6
     pub source : i + q ≤ length coded
     pub inside : q * g + q ≤ q * n
     pub low : i ≤ 9072
     pub near : to ≤ 12960
     pub room : to + e * (q - 1) ≤ length inputs + j
-    pub stride : (q - 1) * e ≤ 10
 
   pub turn : {g i to : ℕ} → g < n → i ≡ base + q * g → to ≡ e * ((q - 1) * g) + j → Turn g i to
   turn {g} l ei et =
@@ -80,13 +78,11 @@ module _ {inputs coded : List ℕ} {h q n base e j : ℕ} (p : EncoderAsked inpu
       let some : 1 * (q - 1) ≤ e * (q - 1) = mul-le-mul {n₂ = e} {m₂ = q - 1} (omega (arith, p .encoder)) (omega arith) in
       record {
         kept-low = two;
-        kept-high = kept-high q (p .rate);
         source = omega (arith, p .source);
         inside = omega arith;
         low = omega (arith, p .near, p .source);
         near = omega (arith, p .encoder, p .two, two);
         room = omega (arith, p .room);
-        stride = stride-small;
       }
 
   module _ {g x i to : ℕ} {d : List ℕ} (l : g < n) (past : Part h own q e j ((q - 1) * g) x inputs d)

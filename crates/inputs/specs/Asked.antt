@@ -27,9 +27,7 @@ pub record AddAsked (line raw outputs : List ℕ) (to at from count : ℕ) : Typ
   pub room : to + count ≤ length line
   pub few : to + count ≤ 2172
   pub near : at + count ≤ length raw
-  pub at-few : at ≤ 2184
   pub out-near : from + count ≤ length outputs
-  pub from-few : from ≤ 2172
 
 pub record MixAsked (line raw outputs : List ℕ) (to skip tail pad count : ℕ) : Type 0 where
   pub room : to + count ≤ length line

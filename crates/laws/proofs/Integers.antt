@@ -2,9 +2,8 @@
 use mathlib.Core.Path.{_≡_, sym, ap}
 use Prim.Native.Nat.{ℕ, _+_, _*_}
 use native.Mathlib.Omega.{arith}
-use lib.Dec.{T, eqb→eq}
 use lib.IntN.{ℤ, pos, negsuc}
-use Rattle.laws.specs.Integers.{counted, alike}
+use Rattle.laws.specs.Integers.{counted}
 
 apart : (m n : ℕ) → 2 * m ≡ 2 * n + 1 → ⊥
 apart m n e = omega (arith, e)
@@ -15,6 +14,3 @@ counted-same (pos m) (pos n) e = ap pos (omega (arith, e))
 counted-same (pos m) (negsuc n) e = absurd (apart m n e)
 counted-same (negsuc m) (pos n) e = absurd (apart n m (sym e))
 counted-same (negsuc m) (negsuc n) e = ap negsuc (omega (arith, e))
-
-pub alike-same : (a b : ℤ) → T (alike a b) → a ≡ b
-alike-same a b t = counted-same a b (eqb→eq (counted a) (counted b) t)

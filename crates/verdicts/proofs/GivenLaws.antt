@@ -353,9 +353,6 @@ module _ (p : Plan) (points : List Float) (format n : ℕ) where
 -- ---- a symbol's own floats
 -- bit r of a stream is bit r % s of half label r / s: of a carrier's only one, or of its first or second
 module _ (bits : ℕ) (known : T (among bitCounts bits)) (t : Bool) (x y : Float) (h : ℕ → ℕ) (r : ℕ) where
-  abbrev axisOf : ℕ
-  axisOf = axisBits bits
-
   abbrev carrier : ℕ
   carrier = r / bits
 

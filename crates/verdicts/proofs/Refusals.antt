@@ -23,7 +23,7 @@ use Rattle.settings.specs.declared.settings.Checked.{Checked}
 use Rattle.settings.specs.declared.settings.Checked.the-variants.{Accepted, Refused}
 use Rattle.settings.specs.Settings.{checkOf, checkedNumber, planFor, Right}
 use Rattle.settings.specs.Statements.{SettingsRefusals}
-use Rattle.settings.proofs.SettingsLaws.{right, passed, plan-fits, planned-width}
+use Rattle.settings.proofs.SettingsLaws.{right, plan-fits, planned-width}
 use Rattle.settings.proofs.Refusals.{settings-refusals}
 use Rattle.subcarriers.specs.Subcarriers.{placesOf, subcarrierAt}
 use Rattle.frame.specs.Points.{floatsOf}
