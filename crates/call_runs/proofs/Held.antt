@@ -25,7 +25,7 @@ use Rattle.reader_state.specs.declared.state.OpenSettings.{OpenSettings}
 use Rattle.reader_state.specs.declared.state.Reader.{Reader}
 use Rattle.acceptance.specs.declared.accept.StepAnswer.{StepAnswer}
 use Rattle.acceptance.specs.declared.accept.StepAnswer.the-variants.{First, Next, BadPoint, Refused as StepRefused}
-use Rattle.reader_state.specs.State.{openRaw, startBy, historyOf, firstBit, endedOf}
+use Rattle.reader_state.specs.State.{openRaw, startBy, historyOf, firstBit, endedOf, blank}
 use Rattle.acceptance.specs.Accepted.{scramblerFor, bitsAfter}
 use Rattle.reader.specs.Step.{stepOf, stepNumber, stepSeed}
 use Rattle.verdicts.specs.Statements.{settingsIn, InReach}
@@ -92,27 +92,21 @@ module _ (st : Reader) (h : Held st) where
     part-fits = h .part-fits;
   }
 
+blank-held : (o : OpenSettings) (ended : Bool) → Held (blank o ended)
+blank-held o ended = record {
+  first = 0;
+  second = 0;
+  two = refl;
+  symbol-fits = omega arith;
+  first-fits = omega arith;
+  second-fits = omega arith;
+  scrambler-fits = omega arith;
+  part-fits = omega arith;
+}
+
 pub start-held : (x : Checked) (o : OpenSettings) → Held (startBy x o .state)
-start-held (Accepted s) o = record {
-  first = 0;
-  second = 0;
-  two = refl;
-  symbol-fits = omega arith;
-  first-fits = omega arith;
-  second-fits = omega arith;
-  scrambler-fits = omega arith;
-  part-fits = omega arith;
-}
-start-held (Refused r) o = record {
-  first = 0;
-  second = 0;
-  two = refl;
-  symbol-fits = omega arith;
-  first-fits = omega arith;
-  second-fits = omega arith;
-  scrambler-fits = omega arith;
-  part-fits = omega arith;
-}
+start-held (Accepted s) o = blank-held o false
+start-held (Refused r) o = blank-held o true
 
 -- ---- an accepted symbol
 

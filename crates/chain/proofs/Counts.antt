@@ -1,12 +1,12 @@
 -- The lists of numbers that a plan is made of: how small their numbers are, and which one is left where the others are not. Assumes nothing.
 use mathlib.Core.Path.{_≡_}
-use mathlib.Core.List.{[], _∷_}
+use mathlib.Core.Bool.{Bool, true, false, cond}
 use Prim.Native.Nat.{ℕ, _<_, _≤_}
 use native.Mathlib.Omega.{arith}
-use lib.Dec.{T}
+use lib.Dec.{T, eqb}
 use Rattle.laws.specs.Test.{among, every-at}
 use Rattle.laws.specs.Claim.{Claim, _is_, _under_, _and_, each, unless, Holds, sound}
-use Rattle.chain.specs.Plan.{widths, bitCounts, streamCounts, encoderCounts, keptCounts}
+use Rattle.chain.specs.Plan.{widths, carriersOf, bitCounts, streamCounts, encoderCounts, keptCounts, axisCounts}
 use Rattle.chain.specs.Parser.{axisBits}
 
 abbrev widthClaim : Claim
@@ -14,6 +14,14 @@ widthClaim = each widths λ w. w under 41 and unless w 40 (w is 20)
 
 widths-are : Holds widthClaim
 widths-are = sound widthClaim tt
+
+-- a width has at most 108 data carriers
+pub carriers-few : (w : ℕ) → carriersOf w ≤ 108
+carriers-few w = go (eqb w 40)
+  where
+    go : (b : Bool) → cond b 108 52 ≤ 108
+    go true = omega arith
+    go false = omega arith
 
 -- widths
 module _ (w : ℕ) (h : T (among widths w)) where
@@ -46,9 +54,9 @@ module _ (b : ℕ) (h : T (among bitCounts b)) where
   axis-most = omega (arith, bits-are b h .1 .1 .1 .0)
 
   -- an axis has one bit, two or three
-  pub axis-known : T (among (1 ∷ 2 ∷ 3 ∷ []) (axisBits b))
+  pub axis-known : T (among axisCounts (axisBits b))
   unfolding axisBits
-  axis-known = every-at (λ (k : ℕ). among (1 ∷ 2 ∷ 3 ∷ []) (axisBits k)) bitCounts tt b h
+  axis-known = every-at (λ (k : ℕ). among axisCounts (axisBits k)) bitCounts tt b h
 
   pub bits-other : (b ≡ 1 → ⊥) → (b ≡ 2 → ⊥) → (b ≡ 4 → ⊥) → b ≡ 6
   bits-other = bits-are b h .1 .1 .1 .1

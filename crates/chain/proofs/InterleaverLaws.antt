@@ -8,7 +8,7 @@ use lib.Dec.{T, eqb}
 use borrow.Author.Tests.{eq-eqb, ne-eqb}
 use Rattle.laws.specs.Test.{among}
 use Rattle.laws.specs.Claim.{Claim, _is_, _under_, _and_, upTo, each, Holds, sound}
-use Rattle.laws.proofs.Search.{first-is}
+use Rattle.laws.proofs.Least.{first-is}
 use Rattle.chain.specs.declared.plan.Plan.{Plan}
 use Rattle.chain.specs.Plan.{widths, bitCounts, Fits}
 use Rattle.chain.specs.Parser.{axisBits}

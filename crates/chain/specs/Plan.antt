@@ -21,6 +21,10 @@ streamCounts = 1 ∷ 2 ∷ 3 ∷ 4 ∷ []
 abbrev pub bitCounts : List ℕ
 bitCounts = 1 ∷ 2 ∷ 4 ∷ 6 ∷ []
 
+-- the bits of one axis of a point
+abbrev pub axisCounts : List ℕ
+axisCounts = 1 ∷ 2 ∷ 3 ∷ []
+
 -- the rates 1/2, 2/3, 3/4 and 5/6, by the coded bits kept of one encoder step less
 abbrev pub keptCounts : List ℕ
 keptCounts = 2 ∷ 3 ∷ 4 ∷ 6 ∷ []

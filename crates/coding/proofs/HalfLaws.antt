@@ -1,7 +1,7 @@
 -- Half labels read through the table of label sources: the bits of one half, the halves of a run, and the rotation of a stream as two runs.
 -- Assumes of the plan that it fits.
 use mathlib.Core.Path.{_≡_, _∙_, refl, sym, ap, ap₂, subst}
-use mathlib.Core.List.{List, [], _∷_}
+use mathlib.Core.List.{List}
 use mathlib.Core.Logic.{⊎-elim}
 use Prim.Native.Nat.{ℕ, _+_, _*_, _/_, _%_, _<_, _≤_}
 use native.Mathlib.Nat.{mul-le-mul, mul-le-mul-right, not-suc-le-zero}
@@ -13,19 +13,20 @@ use Rattle.laws.specs.Test.{among}
 use Rattle.laws.specs.Claim.{Claim, _is_, _under_, _and_, upTo, each, given, unless, Holds, sound}
 use Rattle.laws.specs.Filled.{Filled}
 use Rattle.laws.proofs.Filling.{fill-as, fill-end, fill-join}
-use Rattle.laws.proofs.Radix.{rem-of, quot-of}
+use Rattle.laws.proofs.Radix.{quot-of}
 use Rattle.laws.proofs.Search.{lt-or-le}
-use Rattle.chain.specs.Plan.{widths, bitCounts, encoderCounts, keptCounts, carriersOf, Fits}
+use Rattle.chain.specs.Plan.{widths, bitCounts, encoderCounts, keptCounts, Fits, axisCounts}
 use Rattle.chain.specs.declared.plan.Plan.{Plan}
 use Rattle.chain.specs.Parser.{axisBits, encoderOf, indexOf}
-use Rattle.chain.specs.Interleaver.{rotation, blockOf, shiftOf, source}
+use Rattle.chain.specs.Interleaver.{rotation, shiftOf, source}
 use Rattle.chain.specs.Labels.{written, halvesOf}
 use Rattle.chain.proofs.ParserLaws.{parses}
-use Rattle.chain.proofs.InterleaverLaws.{shift-lt, source-shift, stream-below-four, plan-block, interleaves-plan}
-use Rattle.chain.proofs.Counts.{axis-known, bits-some}
+use Rattle.chain.proofs.InterleaverLaws.{shift-lt, stream-below-four, plan-block, interleaves-plan}
+use Rattle.chain.proofs.Counts.{carriers-few, axis-known, bits-some}
 use Rattle.chain.proofs.LabelLaws.{written-from, halves-most}
-use Rattle.sources.specs.Sources.{codedSlot, labelSource}
+use Rattle.sources.specs.Sources.{labelSource}
 use Rattle.sources.proofs.SourceLaws.{small}
+use Rattle.sources.proofs.TableLaws.{coded-room, place-there, turned-bit}
 use Rattle.coding.specs.Halves.{halfAt, labelIn, halfIn, HalfAsked, RunAsked, HalvesFilled}
 
 -- bit t of half m is in the table, and what stands there among the coded bits
@@ -106,7 +107,7 @@ counted-most : (b c n : ℕ) → Counted b c n → n ≤ 2 * c
 counted-most b c n e = ⊎-elim (λ (l : b < 2). omega (arith, e .0 l)) (λ (l : 2 ≤ b). omega (arith, e .1 l)) (lt-or-le b 2)
 
 abbrev turnClaim : Claim
-turnClaim = each widths λ w. carriersOf w under 109 and upTo 4 λ i. (i * 2 % 3 + 3 * (i / 3)) * rotation w under 109
+turnClaim = each widths λ w. upTo 4 λ i. (i * 2 % 3 + 3 * (i / 3)) * rotation w under 109
 
 turns : Holds turnClaim
 unfolding rotation
@@ -130,27 +131,15 @@ pub record TwoRuns (begin count first to from n to′ from′ n′ : ℕ) : Type
   pub from-zero : from′ ≡ 0
   pub all : n + n′ ≡ count
 
--- bit k of stream i stands i·s places behind that of stream 0
-place-shift : (s streams encoders i k : ℕ) → codedSlot s streams encoders 0 k + i * s ≡ codedSlot s streams encoders i k
-unfolding indexOf
-place-shift s streams encoders i k = omega arith
-
--- the coded bits of one encoder or of two have room
-coded-lt : (c e j y : ℕ) → 1 ≤ e → e ≤ 2 → c ≤ 2592 → j < e → y < c / e → 1296 * j + y < 2592
-coded-lt c e j y some most room hj hy = ⊎-elim
-    (λ (l : e < 2). let one : e ≡ 1 = omega arith in omega (arith, subst (λ (d : ℕ). y < c / d) one hy))
-    (λ (l : 2 ≤ e). let two : e ≡ 2 = omega arith in omega (arith, subst (λ (d : ℕ). y < c / d) two hy))
-    (lt-or-le e 2)
-
 module _ (p : Plan) (f : Fits p) where
   -- a plan has few carriers
-  pub carriers-few : p .carriers ≤ 108
-  carriers-few = omega (arith, f .carriers-is, turns (p .width) (f .width) .0)
+  pub carriers-most : p .carriers ≤ 108
+  carriers-most = omega (arith, f .carriers-is, carriers-few (p .width))
 
   module _ (i : ℕ) (hi : i < p .streams) where
     -- a stream is rotated by at most 108 carriers
     pub rotated-few : (n : ℕ) → n ≡ (i * 2 % 3 + 3 * (i / 3)) * rotation (p .width) → n ≤ 108
-    rotated-few n e = omega (arith, e, turns (p .width) (f .width) .1 i (stream-below-four p f i hi))
+    rotated-few n e = omega (arith, e, turns (p .width) (f .width) i (stream-below-four p f i hi))
 
     -- what the code counts
     pub turned : (s count carriers first : ℕ) → s ≡ axisBits (p .bits) → Counted (p .bits) (p .carriers) count
@@ -175,7 +164,7 @@ module _ (p : Plan) (f : Fits p) where
           whole = whole;
           shift-is = shift-is;
           less = ⊎-elim (λ (l : first < count). l) (λ (l : count ≤ first). absurd (omega (arith, below, mul-le-mul-right s l))) (lt-or-le first count);
-          few = omega (arith, counted-most (p .bits) (p .carriers) count counted, carriers-few);
+          few = omega (arith, counted-most (p .bits) (p .carriers) count counted, carriers-most);
         }
 
     module _ {s count first : ℕ} (t : Turned p i s count first) where
@@ -194,14 +183,11 @@ module _ (p : Plan) (f : Fits p) where
       shift-few = mul-le-mul {n₂ = 4} {m₂ = 3} (omega (arith, stream-below-four p f i hi)) (omega (arith, t .axis-is, small p f))
 
       module _ (table : List ℕ) (tabled : (r : ℕ) → r < p .block → getD table r 0 ≡ labelSource p r) where
-        -- the table's place r, as many places on, is a place of stream i
-        there : (r : ℕ) → r < p .block
-            → getD table r 0 + i * s ≡ codedSlot (axisBits (p .bits)) (p .streams) (p .encoders) i (source (p .width) (p .bits) 0 r)
-        there r l =
-            ap₂ (λ (x y : ℕ). x + i * y) (tabled r l) (t .axis-is)
-            ∙ place-shift (axisBits (p .bits)) (p .streams) (p .encoders) i (source (p .width) (p .bits) 0 r)
+        -- the code's number of bits of an axis
+        on : (r : ℕ) → getD table r 0 + i * s ≡ getD table r 0 + i * axisBits (p .bits)
+        on r = ap (λ (x : ℕ). getD table r 0 + i * x) (t .axis-is)
 
-        -- it is one of the coded bits
+        -- the table's place r, as many places on, is one of the coded bits
         reached : (r : ℕ) → r < p .block → getD table r 0 + i * s < 2592
         reached r l =
             let k = source (p .width) (p .bits) 0 r in
@@ -209,31 +195,19 @@ module _ (p : Plan) (f : Fits p) where
             let n = small p f in
             omega (
               arith,
-              there r l,
-              coded-lt (p .coded) (p .encoders) (encoderOf (axisBits (p .bits)) (p .encoders) k)
+              on r ∙ place-there p f i hi table tabled r l,
+              coded-room (p .coded) (p .encoders) (encoderOf (axisBits (p .bits)) (p .encoders) k)
                   (indexOf (axisBits (p .bits)) (p .streams) (p .encoders) i k) (omega (arith, parses p f .encoder-lt k)) (n .encoders) (f .coded-most)
                   (parses p f .encoder-lt k) (parses p f .index-lt i k hi inside),
             )
 
-        -- the table's place that is bit r of stream i: the rotation on, and round
-        turned-bit : (r r′ g : ℕ) → r < p .block → r′ < p .block → r + shiftOf (p .width) (p .bits) i ≡ g * p .block + r′
-            → getD table r′ 0 + i * s ≡ codedSlot (axisBits (p .bits)) (p .streams) (p .encoders) i (source (p .width) (p .bits) i r)
-        turned-bit r r′ g l l′ e =
-            let w = p .width in
-            let b = p .bits in
-            let block-is : p .block ≡ blockOf w b = plan-block p f in
-            let on : (r + shiftOf w b i) % blockOf w b ≡ r′ =
-            rem-of (blockOf w b) g r′ (r + shiftOf w b i) (omega arith) (e ∙ ap (λ (x : ℕ). g * x + r′) block-is) in
-            let same : source w b i r ≡ source w b 0 r′ =
-            source-shift w b i (f .width) (f .bits) (stream-below-four p f i hi) r (omega arith) ∙ ap (source w b 0) on in
-            there r′ l′ ∙ ap (λ (k : ℕ). codedSlot (axisBits b) (p .streams) (p .encoders) i k) (sym same)
-
-        -- and so for its half labels
+        -- the half label of the table's bits that is half label m of stream i: the rotation on, and round
         turned-half : (coded : List ℕ) (m m′ g : ℕ) → m < count → m′ < count → m + first ≡ g * count + m′
             → halfAt coded table s (i * s) m′ ≡ halfIn p coded i m
         turned-half coded m m′ g l l′ e =
             written-from (λ r. getD coded (getD table r 0 + i * s) 0 % 2) (labelIn p coded i) (m′ * s) (m * s) s
-            (λ k b. ap (λ (x : ℕ). getD coded x 0 % 2) (turned-bit (m * s + k) (m′ * s + k) g (in-block m k l b) (in-block m′ k l′ b) (turn k)))
+            (λ k b. ap (λ (x : ℕ). getD coded x 0 % 2)
+            (on (m′ * s + k) ∙ turned-bit p f i hi table tabled (m * s + k) (m′ * s + k) g (in-block m k l b) (in-block m′ k l′ b) (turn k)))
             ∙ ap (λ (x : ℕ). written (labelIn p coded i) (m * x) x) (t .axis-is)
           where
             in-block : (n k : ℕ) → n < count → k < s → n * s + k < p .block
@@ -266,7 +240,7 @@ module _ (p : Plan) (f : Fits p) where
             let bits : (from + n) * s ≤ count * s = mul-le-mul-right s low in
             let whole = t .whole in
             record {
-              axis = subst (λ (x : ℕ). T (among (1 ∷ 2 ∷ 3 ∷ []) x)) (sym (t .axis-is)) (axis-known (p .bits) (f .bits));
+              axis = subst (λ (x : ℕ). T (among axisCounts x)) (sym (t .axis-is)) (axis-known (p .bits) (f .bits));
               few = omega (arith, t .few);
               room = omega (arith, stream-room);
               near = omega (arith, stream-near);

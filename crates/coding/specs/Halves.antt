@@ -1,11 +1,11 @@
 -- Half labels read through the table, and what the calls ask and leave.
 use mathlib.Core.Path.{_≡_}
-use mathlib.Core.List.{List, [], _∷_}
+use mathlib.Core.List.{List}
 use Prim.Native.Nat.{ℕ, _+_, _*_, _%_, _<_, _≤_}
 use lib.Dec.{T}
 use lib.ListN.{length, getD}
 use Rattle.laws.specs.Test.{among}
-use Rattle.chain.specs.Plan.{Fits}
+use Rattle.chain.specs.Plan.{Fits, axisCounts}
 use Rattle.chain.specs.declared.plan.Plan.{Plan}
 use Rattle.chain.specs.Parser.{axisBits}
 use Rattle.chain.specs.Interleaver.{source}
@@ -24,13 +24,13 @@ abbrev pub halfIn : (p : Plan) (coded : List ℕ) (i m : ℕ) → ℕ
 halfIn p coded i m = written (labelIn p coded i) (m * axisBits (p .bits)) (axisBits (p .bits))
 
 pub record HalfAsked (coded table : List ℕ) (s shift m : ℕ) : Type 0 where
-  pub axis : T (among (1 ∷ 2 ∷ 3 ∷ []) s)
+  pub axis : T (among axisCounts s)
   pub few : m < 648
   pub inside : (t : ℕ) → t < s → m * s + t < length table
   pub reached : (t : ℕ) → t < s → getD table (m * s + t) 0 + shift < length coded
 
 pub record RunAsked (halves coded table : List ℕ) (s shift to from count : ℕ) : Type 0 where
-  pub axis : T (among (1 ∷ 2 ∷ 3 ∷ []) s)
+  pub axis : T (among axisCounts s)
   pub few : from + count ≤ 648
   pub room : to + count ≤ length halves
   pub near : to + count ≤ 864

@@ -4,6 +4,7 @@ use chain::plan::axis_bits;
 use inputs::line::coder_inputs;
 use puncturing::coded::coded_bits;
 use sources::sources::label_sources;
+use sources::sources::wide;
 ghost use mathlib.Core.Path.{_≡_};
 ghost use Prim.Native.Nat.{_+_, _*_, _/_, _%_, _<_, _≤_};
 ghost use lib.ListN.{length, getD};
@@ -13,12 +14,6 @@ ghost use Rattle.chain.specs.DataBits.{payloadBit, coderInput};
 ghost use Rattle.chain.specs.Labels.{halfLabel, halvesOf};
 ghost use Rattle.chain.specs.Plan.{Fits, groupsOf};
 ghost use Rattle.coding.specs.Halves.{halfAt, halfIn, HalfAsked, RunAsked, HalvesAsked, StreamAsked, HalvesFilled, LabelsAsked};
-
-fn wide(place: u16) -> usize
-    ensures { λ r. ⌜ r ≡ place ⌝ }
-{
-    place as usize
-}
 
 // The coded bit at a place of the table, `shift` places on.
 fn coded_at(coded: &[u8], table: &[u16], shift: usize, r: usize) -> u8

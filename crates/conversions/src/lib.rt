@@ -41,6 +41,13 @@ pub fn raw_settings(
     }
 }
 
+// A byte as a part of a number.
+pub fn wide(x: u8) -> u64
+    ensures { λ r. ⌜ (r ≡ x) × (r < 256) ⌝ }
+{
+    x as u64
+}
+
 fn negated(n: u64) -> i64
     requires { ⌜ n < 16 ⌝ }
     ensures { λ r. ⌜ r ≡ minus n ⌝ }

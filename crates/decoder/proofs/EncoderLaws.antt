@@ -1,7 +1,7 @@
 -- One encoder's inverse, or two one after the other, give the whole symbol's.
 -- Assumes nothing.
-use mathlib.Core.Path.{_≡_, _∙_, refl, sym, ap, ap₂, subst}
-use mathlib.Core.Bool.{Bool, true, false}
+use mathlib.Core.Path.{_≡_, _∙_, sym, ap, ap₂, subst}
+use mathlib.Core.Bool.{Bool}
 use mathlib.Core.List.{List, [], _∷_}
 use Prim.Native.Nat.{ℕ, zero, suc, _+_, _-_, _*_, _/_, _%_, _<_, _≤_}
 use native.Mathlib.Nat.{mul-le-mul-left, mul-le-mul-right, mul-suc, mod-lt, mul-comm, div-add-mod, div-lt-iff-lt-mul, zero-add}
@@ -10,19 +10,12 @@ use lib.Dec.{T, eqb, eqb→eq}
 use lib.ListN.{length, getD}
 use borrow.Author.Tests.{lt-ltb, le-ltb}
 use Rattle.laws.specs.Test.{below, below-at, below-of}
-use Rattle.laws.proofs.Reflect.{eqb-of}
+use Rattle.laws.proofs.Reflect.{same-test, eqb-of}
 use Rattle.chain.specs.Decoder.{codedAfter, forcedInput, inputsOf, checks}
 use Rattle.chain.proofs.Counts.{encoders-some, encoders-most}
 use Rattle.forcing.specs.Asked.{GroupsRight, EncoderAsked, EncoderDone}
 use Rattle.decoder.specs.Decoded.{historiesIn}
 use Rattle.decoder.specs.Asked.{EncodersAsked, EncodersDone}
-
--- tests that pass together are one
-same-test : (a b : Bool) → (T a → T b) → (T b → T a) → a ≡ b
-same-test true true f g = refl
-same-test true false f g = absurd (f tt)
-same-test false true f g = absurd (g tt)
-same-test false false f g = refl
 
 module _ (hs : ℕ → ℕ) (c : ℕ → ℕ → ℕ) (e q n : ℕ) where
   abbrev Right : ℕ → Type 0

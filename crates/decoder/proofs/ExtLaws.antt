@@ -1,15 +1,16 @@
 -- The decoder looks at a symbol's own label bits, coded bits and inputs only; its test passes exactly for the label bits that some inputs give.
 -- Assumes of the plan that it fits.
-use mathlib.Core.Path.{_≡_, refl, sym, ap₂, subst}
+use mathlib.Core.Path.{_≡_, refl, ap₂}
 use mathlib.Core.Bool.{Bool, true, false, cond}
 use mathlib.Core.Logic.{⊎-elim, _↔_}
 use Prim.Native.Nat.{ℕ, zero, suc, _+_, _-_, _*_, _/_, _%_, _<_, _≤_}
 use native.Mathlib.Nat.{mod-lt, mul-comm, div-lt-iff-lt-mul, mul-le-mul-left, mul-suc}
 use native.Mathlib.Omega.{arith}
-use lib.Dec.{T, eqb, ltb}
+use lib.Dec.{eqb, ltb}
 use borrow.Author.Tests.{lt-ltb, le-ltb}
 use Rattle.laws.specs.Test.{both, below}
 use Rattle.laws.proofs.Search.{lt-or-le}
+use Rattle.laws.proofs.Reflect.{T-true, true-T}
 use Rattle.chain.specs.declared.plan.Plan.{Plan}
 use Rattle.chain.specs.Plan.{groupsOf, Fits}
 use Rattle.chain.specs.Labels.{share}
@@ -109,15 +110,11 @@ module _ (p : Plan) (fits : Fits p) (hs : ℕ → ℕ) where
       found e = record {
         X = decodedInput p hs lab;
         bits = λ d l. decoded-bit p hs lab d;
-        gives = decoded-labels p fits hs lab bits (subst T (sym e) tt);
+        gives = decoded-labels p fits hs lab bits (true-T _ e);
       }
 
-      passes : (t : Bool) → T t → t ≡ true
-      passes true u = refl
-      passes false u = absurd u
-
       given : SomeInputs p hs lab → decodes p hs lab ≡ true
-      given s = passes (decodes p hs lab) (given-decodes p fits hs (s .X) lab (s .bits) (s .gives))
+      given s = T-true (decodes p hs lab) (given-decodes p fits hs (s .X) lab (s .bits) (s .gives))
 
 -- a history stays six bits
 pub moved-small : (p : Plan) (hs X : ℕ → ℕ) (j : ℕ) → hs j < 64 → historyMoved p hs X j < 64

@@ -1,14 +1,13 @@
 -- Numbers added up over a range: the sum is zero exactly when each is. Three such ranges are service, tail and pad.
 use mathlib.Core.Path.{_≡_, refl, sym, subst}
 use mathlib.Core.List.{List}
-use mathlib.Core.Bool.{Bool, true, false}
 use Prim.Native.Nat.{ℕ, _+_, _-_, _<_, _≤_, min}
 use mathlib.Core.Logic.{⊎-elim}
 use native.Mathlib.Nat.{eq-or-lt-of-le}
 use native.Mathlib.Omega.{arith}
 use lib.ListN.{length}
-use lib.Dec.{T, eqb, eqb→eq}
-use Rattle.laws.proofs.Reflect.{eqb-of}
+use lib.Dec.{eqb, eqb→eq}
+use Rattle.laws.proofs.Reflect.{same-test, eqb-of}
 use Rattle.chain.specs.DataBits.{payloadEnd, tailEnd}
 use Rattle.deframer.specs.Deframed.{framed, FramedAsked}
 use Rattle.deframer.specs.Asked.{Counted}
@@ -31,13 +30,6 @@ module _ (f : ℕ → ℕ) (from : ℕ) where
 
   pub count-end : {d to total : ℕ} → d ≡ to → Counted f from d total → Counted f from to total
   count-end {total = total} e c = subst (λ (k : ℕ). Counted f from k total) e c
-
--- two tests that pass together are the same
-same-test : (s t : Bool) → (T s → T t) → (T t → T s) → s ≡ t
-same-test true true f g = refl
-same-test true false f g = absurd (f tt)
-same-test false true f g = absurd (g tt)
-same-test false false f g = refl
 
 -- service, tail and pad of a symbol add up to zero exactly when it passes
 pub framed-counted : (bytes encoders start count : ℕ) (X P : ℕ → ℕ) (service tail pad a b c : ℕ)

@@ -1,24 +1,17 @@
 -- The test of a data bit, range by range: what it says, and that a frame's own inputs pass it and no others.
 use mathlib.Core.Path.{_≡_, _∙_, refl, sym, ap₂, subst}
-use mathlib.Core.Bool.{Bool, true, false}
+use mathlib.Core.Bool.{true}
 use mathlib.Core.Logic.{_↔_}
 use Prim.Native.Nat.{ℕ, zero, suc, _+_, _-_, _%_, _<_, _≤_}
 use native.Mathlib.Omega.{arith}
 use lib.Dec.{T, eqb, eqb→eq}
 use borrow.Author.Tests.{lt-ltb, le-ltb}
 use Rattle.laws.specs.Test.{both, below-at, below-of}
-use Rattle.laws.proofs.Reflect.{eqb-of}
+use Rattle.laws.proofs.Reflect.{T-true, true-T, eqb-of}
 use Rattle.chain.specs.DataBits.{payloadEnd, tailEnd, inputWith}
 use Rattle.chain.proofs.InputLaws.{ranges, input-service, input-payload, input-tail, input-pad}
 use Rattle.deframer.specs.Deframed.{inputOk, framed}
 use Rattle.deframer.specs.Statements.{RightBit}
-
-pub T-true : (t : Bool) → T t → t ≡ true
-T-true true p = refl
-T-true false p = absurd p
-
-pub true-T : (t : Bool) → t ≡ true → T t
-true-T t e = subst T (sym e) tt
 
 module _ (bytes encoders d b a : ℕ) where
   ok-service : d < 16 → inputOk bytes encoders d b a ≡ eqb a 0

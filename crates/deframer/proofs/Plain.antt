@@ -1,13 +1,13 @@
 -- Seed and plain bits of a symbol's inputs.
 use mathlib.Core.Path.{_≡_, _∙_, ap}
 use mathlib.Core.List.{List}
-use Prim.Native.Nat.{ℕ, _+_, _*_, _%_, _<_}
+use Prim.Native.Nat.{ℕ, _+_, _*_, _<_}
 use native.Mathlib.Omega.{arith}
 use lib.Bits.{bitXor}
 use lib.ListN.{getD}
-use Rattle.laws.specs.Claim.{Claim, _is_, upTo, Holds, sound}
 use Rattle.laws.specs.Filled.{Filled}
 use Rattle.laws.proofs.Filling.{fill-at, fill-as}
+use Rattle.laws.proofs.Xor.{xor-bits}
 use Rattle.chain.specs.Scrambler.{stateAt, scramblerBit, seedOf}
 use Rattle.chain.proofs.ScramblerLaws.{state-small, scrambler-bit}
 use Rattle.deframer.specs.Deframed.{plainBit}
@@ -23,13 +23,6 @@ unfolding seedOf
 seed-nibbles X low high r l h s t e =
     (e ∙ ap (λ (z : ℕ). stateAt z 120) (omega arith), rw e (state-small (low + 16 * high) 120 (omega arith)))
 
--- the xor of two bits is their sum modulo 2
-abbrev xorClaim : Claim
-xorClaim = upTo 2 λ a. upTo 2 λ b. bitXor a b is (a + b) % 2
-
-xors : Holds xorClaim
-xors = sound xorClaim tt
-
 -- inputs with the scrambler's outputs on them are the plain bits
 pub plain-filled : (inputs outputs₀ outputs plain₀ plain : List ℕ) (state count : ℕ) → ((d : ℕ) → d < count → getD inputs d 0 < 2)
     → Filled 0 0 (λ t. scramblerBit state t) count outputs₀ outputs
@@ -37,5 +30,5 @@ pub plain-filled : (inputs outputs₀ outputs plain₀ plain : List ℕ) (state 
     → Filled 0 0 (plainBit state (λ d. getD inputs d 0)) count plain₀ plain
 plain-filled inputs outputs₀ outputs plain₀ plain state count bits out p =
     fill-as _ _ _ (plainBit state (λ d. getD inputs d 0)) _ _ _
-    (λ d h. rw (fill-at 0 (λ t. scramblerBit state t) out d h) (xors (getD inputs d 0) (bits d h) (scramblerBit state d) (scrambler-bit state d)))
+    (λ d h. rw (fill-at 0 (λ t. scramblerBit state t) out d h) (xor-bits (getD inputs d 0) (bits d h) (scramblerBit state d) (scrambler-bit state d)))
     p

@@ -9,19 +9,19 @@ use native.Mathlib.Omega.{arith}
 use lib.ListN.{length, getD, set}
 use Rattle.laws.specs.Scattered.{Scattered}
 use Rattle.laws.proofs.Scattering.{scatter-more}
-use Rattle.laws.proofs.Radix.{rem-of}
 use Rattle.laws.proofs.Search.{lt-or-le}
 use Rattle.chain.specs.declared.plan.Plan.{Plan}
 use Rattle.chain.specs.Plan.{Fits}
-use Rattle.chain.specs.Parser.{axisBits, indexOf, bitOf}
-use Rattle.chain.specs.Interleaver.{rotation, blockOf, shiftOf, place, source}
+use Rattle.chain.specs.Parser.{axisBits, bitOf}
+use Rattle.chain.specs.Interleaver.{rotation, shiftOf, place}
 use Rattle.chain.specs.Labels.{share}
 use Rattle.chain.specs.Statements.{codedStream, codedPlace, placeEncoder, placeIndex}
 use Rattle.chain.specs.Decoder.{codedIn}
-use Rattle.chain.proofs.InterleaverLaws.{shift-lt, source-shift, stream-below-four, plan-block}
+use Rattle.chain.proofs.InterleaverLaws.{shift-lt, stream-below-four, plan-block}
 use Rattle.chain.proofs.LabelPlaces.{label-of-coded, coded-of-label}
-use Rattle.sources.specs.Sources.{codedSlot, labelSource}
+use Rattle.sources.specs.Sources.{labelSource}
 use Rattle.sources.proofs.SourceLaws.{small}
+use Rattle.sources.proofs.TableLaws.{coded-room, turned-bit}
 use Rattle.deinterleaver.specs.Deinterleaved.{bitsIn, slotOf}
 use Rattle.deinterleaver.specs.Asked.{RunAsked, Placed}
 use Rattle.deinterleaver.proofs.ScatterLaws.{scatter-end, scatter-as, scatter-join}
@@ -35,26 +35,14 @@ run-more {coded₀} {coded} {bits} {table} {shift} {from} {first} r to asked l s
     rw same (scatter-more 0 (λ k. getD table (first + k) 0 + shift) (λ k. getD bits (from + k) 0) r coded₀ coded
     (asked .reached r l) (λ k h. asked .apart k r h l) s)
 
--- bit k of stream i stands i·s places behind that of stream 0
-place-shift : (s streams encoders i k : ℕ) → codedSlot s streams encoders 0 k + i * s ≡ codedSlot s streams encoders i k
-unfolding indexOf
-place-shift s streams encoders i k = omega arith
-
--- the coded bits of one encoder or of two have room, and no two stand in the same place
-module _ (c e j y : ℕ) (some : 1 ≤ e) (most : e ≤ 2) (room : c ≤ 2592) (hj : j < e) (hy : y < c / e) where
-  slot-room : 1296 * j + y < 2592
-  slot-room = ⊎-elim
-      (λ (l : e < 2). let one : e ≡ 1 = omega arith in omega (arith, subst (λ (d : ℕ). y < c / d) one hy))
-      (λ (l : 2 ≤ e). let two : e ≡ 2 = omega arith in omega (arith, subst (λ (d : ℕ). y < c / d) two hy))
-      (lt-or-le e 2)
-
-  same-slot : (j′ y′ : ℕ) → j′ < e → y′ < c / e → 1296 * j + y ≡ 1296 * j′ + y′ → (j ≡ j′) × (y ≡ y′)
-  same-slot j′ y′ hj′ hy′ same = ⊎-elim
-      (λ (l : e < 2). omega arith)
-      (λ (l : 2 ≤ e).
-      let two : e ≡ 2 = omega arith in
-      omega (arith, subst (λ (d : ℕ). y < c / d) two hy, subst (λ (d : ℕ). y′ < c / d) two hy′))
-      (lt-or-le e 2)
+-- no two coded bits of one encoder or of two stand in the same place
+same-slot : (c e j y j′ y′ : ℕ) → e ≤ 2 → c ≤ 2592 → j < e → y < c / e → j′ < e → y′ < c / e → 1296 * j + y ≡ 1296 * j′ + y′ → (j ≡ j′) × (y ≡ y′)
+same-slot c e j y j′ y′ most room hj hy hj′ hy′ same = ⊎-elim
+    (λ (l : e < 2). omega arith)
+    (λ (l : 2 ≤ e).
+    let two : e ≡ 2 = omega arith in
+    omega (arith, subst (λ (d : ℕ). y < c / d) two hy, subst (λ (d : ℕ). y′ < c / d) two hy′))
+    (lt-or-le e 2)
 
 -- what the code counts for stream i: how far its coded bits are on, its rotation, the rest of the block, and where its label bits begin
 pub record Turned (p : Plan) (i shift turn rest from : ℕ) : Type 0 where
@@ -69,7 +57,7 @@ module _ (p : Plan) (f : Fits p) where
 
   slot-same : (j y j′ y′ : ℕ) → j < p .encoders → y < share p → j′ < p .encoders → y′ < share p → 1296 * j + y ≡ 1296 * j′ + y′ → (j ≡ j′) × (y ≡ y′)
   slot-same j y j′ y′ hj hy hj′ hy′ =
-      same-slot (p .coded) (p .encoders) j y (omega arith) (small p f .encoders) (f .coded-most) hj hy j′ y′ hj′ hy′
+      same-slot (p .coded) (p .encoders) j y j′ y′ (small p f .encoders) (f .coded-most) hj hy hj′ hy′
 
   module _ (i : ℕ) (hi : i < p .streams) where
     -- a stream's rotation is less than the block
@@ -107,7 +95,7 @@ module _ (p : Plan) (f : Fits p) where
     slot-lt : (r : ℕ) → r < p .block → slotOf p i r < 2592
     slot-lt r l =
         let h = coded-of-label p f i r hi l in
-        slot-room (p .coded) (p .encoders) (placeEncoder p i r) (placeIndex p i r) (omega (arith, h .encoder-lt)) (small p f .encoders) (f .coded-most)
+        coded-room (p .coded) (p .encoders) (placeEncoder p i r) (placeIndex p i r) (omega (arith, h .encoder-lt)) (small p f .encoders) (f .coded-most)
         (h .encoder-lt) (h .index-lt)
 
     slot-apart : (r r′ : ℕ) → r < r′ → r′ < p .block → slotOf p i r ≡ slotOf p i r′ → ⊥
@@ -121,32 +109,17 @@ module _ (p : Plan) (f : Fits p) where
         omega arith
 
     module _ (table : List ℕ) (tabled : (r : ℕ) → r < p .block → getD table r 0 ≡ labelSource p r) where
-      -- the table's place that is label bit r of stream i: the rotation on, and round
-      turned-bit : (r r′ g : ℕ) → r < p .block → r′ < p .block → r + shiftOf (p .width) (p .bits) i ≡ g * p .block + r′
-          → getD table r′ 0 + i * axisBits (p .bits) ≡ slotOf p i r
-      turned-bit r r′ g l l′ e =
-          let w = p .width in
-          let b = p .bits in
-          let block-is : p .block ≡ blockOf w b = plan-block p f in
-          let on : (r + shiftOf w b i) % blockOf w b ≡ r′ =
-          rem-of (blockOf w b) g r′ (r + shiftOf w b i) (omega arith) (e ∙ ap (λ (x : ℕ). g * x + r′) block-is) in
-          let same : source w b i r ≡ source w b 0 r′ =
-          source-shift w b i (f .width) (f .bits) (stream-below-four p f i hi) r (omega arith) ∙ ap (source w b 0) on in
-          ap (λ (x : ℕ). x + i * axisBits b) (tabled r′ l′)
-          ∙ place-shift (axisBits b) (p .streams) (p .encoders) i (source w b 0 r′)
-          ∙ ap (λ (k : ℕ). codedSlot (axisBits b) (p .streams) (p .encoders) i k) (sym same)
-
       module _ {shift turn rest from : ℕ} (t : Turned p i shift turn rest from) where
         -- the places of the two runs
         first-run : (k : ℕ) → k < rest → getD table (turn + k) 0 + shift ≡ slotOf p i k
         first-run k l =
             ap (λ (x : ℕ). getD table (turn + k) 0 + x) (t .shift-is)
-            ∙ turned-bit k (turn + k) 0 (omega (arith, t .whole)) (omega (arith, t .whole)) (omega (arith, t .turn-is))
+            ∙ turned-bit p f i hi table tabled k (turn + k) 0 (omega (arith, t .whole)) (omega (arith, t .whole)) (omega (arith, t .turn-is))
 
         second-run : (k : ℕ) → k < turn → getD table (0 + k) 0 + shift ≡ slotOf p i (rest + k)
         second-run k l =
             ap (λ (x : ℕ). getD table (0 + k) 0 + x) (t .shift-is)
-            ∙ turned-bit (rest + k) (0 + k) 1 (omega (arith, t .whole)) (omega (arith, t .whole)) (omega (arith, t .turn-is, t .whole))
+            ∙ turned-bit p f i hi table tabled (rest + k) (0 + k) 1 (omega (arith, t .whole)) (omega (arith, t .whole)) (omega (arith, t .turn-is, t .whole))
 
         -- what a run of n label bits from bit `start` on asks
         run-asked : {coded bits : List ℕ} (start first n to : ℕ) → to ≡ i * p .block + start → start + n ≤ p .block → first + n ≤ p .block

@@ -3,18 +3,12 @@ use chain::plan::Plan;
 use chain::plan::axis_bits;
 use coding::labels::rotated_carriers;
 use sources::sources::label_sources;
-ghost use mathlib.Core.Path.{_≡_};
+use sources::sources::wide;
 ghost use Prim.Native.Nat.{_+_};
 ghost use lib.ListN.{getD};
 ghost use Rattle.laws.specs.Scattered.{Scattered};
 ghost use Rattle.deinterleaver.specs.Deinterleaved.{bitsIn, slotOf};
 ghost use Rattle.deinterleaver.specs.Asked.{RunAsked, StreamAsked, CodedAsked, Placed};
-
-fn wide(place: u16) -> usize
-    ensures { λ r. ⌜ r ≡ place ⌝ }
-{
-    place as usize
-}
 
 // Label bits from `from` on, each to its place of the table, from `first` on, `shift` places on.
 fn put_run(

@@ -28,12 +28,12 @@ use Rattle.reader_state.specs.declared.state.OpenSettings.{OpenSettings}
 use Rattle.reader_state.specs.declared.state.Reader.{Reader}
 use Rattle.acceptance.specs.declared.accept.StepAnswer.the-variants.{First, Next}
 use Rattle.acceptance.specs.declared.accept.Stepped.{Stepped}
-use Rattle.reader_state.specs.State.{openRaw}
+use Rattle.reader_state.specs.State.{withSeed, openRaw}
 use Rattle.acceptance.specs.Accepted.{answered}
 use Rattle.reader.specs.Step.{stepOf, stepNumber}
 use Rattle.verdicts.proofs.StepCases.{accepted-zero}
 use Rattle.reader_runs.specs.Run.{stateBefore, answerTo, sliceAfter, memoryBefore}
-use Rattle.reader_runs.specs.Sent.{settingsFor, withSeed, FloatsSent, stateAfter, SentBy, Rooms}
+use Rattle.reader_runs.specs.Sent.{settingsFor, FloatsSent, stateAfter, SentBy, Rooms}
 use Rattle.reader_runs.proofs.Steps.{sound, step-gives, step-agrees}
 use Rattle.reader_runs.proofs.Runs.{floats-agree, run-state, run-takes, run-gives}
 use Rattle.reader_runs.proofs.Memory.{bytesBefore, bytes-all, slice-filled, memory-whole}

@@ -23,8 +23,8 @@ use Rattle.frame.proofs.PointsLaws.{points-by}
 use Rattle.reader_state.specs.declared.state.OpenSettings.{OpenSettings}
 use Rattle.reader_state.specs.declared.state.StartAnswer.{StartAnswer}
 use Rattle.reader_state.specs.declared.state.StartAnswer.the-variants.{Ready, Refused as StartRefused}
-use Rattle.reader_state.specs.State.{openRaw, startBy}
-use Rattle.reader_runs.specs.Sent.{settingsFor, withSeed, sentInput, FloatsSent}
+use Rattle.reader_state.specs.State.{withSeed, openRaw, startBy}
+use Rattle.reader_runs.specs.Sent.{settingsFor, sentInput, FloatsSent}
 use Rattle.demands.specs.Demand2.{Begun, GivesSymbol}
 use Rattle.demands.proofs.Calls.{Given, level-at}
 

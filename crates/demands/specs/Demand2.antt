@@ -22,11 +22,11 @@ use Rattle.reader_state.specs.declared.state.StartAnswer.the-variants.{Ready}
 use Rattle.reader_state.specs.declared.state.Reader.{Reader}
 use Rattle.acceptance.specs.declared.accept.StepAnswer.{StepAnswer}
 use Rattle.acceptance.specs.declared.accept.StepAnswer.the-variants.{First, Next}
-use Rattle.reader_state.specs.State.{startOf}
+use Rattle.reader_state.specs.State.{withSeed, startOf}
 use Rattle.acceptance.specs.Accepted.{bitsBefore}
 use Rattle.reader.specs.Step.{stepOf, stepNumber}
 use Rattle.reader_runs.specs.Run.{stateBefore, answerTo, sliceAfter, memoryBefore}
-use Rattle.reader_runs.specs.Sent.{settingsFor, withSeed, stateAfter}
+use Rattle.reader_runs.specs.Sent.{settingsFor, stateAfter}
 use Rattle.demands.specs.Frames.{WholePayload}
 
 -- The words. Settings o are without a seed; symbol n's points are S n, and its step is lent the payload slice M n, with anything in it.

@@ -1,7 +1,7 @@
 -- Labels from floats: what the tables of keys give is what the search among the levels gives. Assumes nothing.
 use mathlib.Core.Path.{_≡_, _∙_, sym, ap, subst}
 use mathlib.Core.Bool.{Bool, true, false, cond, not}
-use mathlib.Core.List.{List, [], _∷_}
+use mathlib.Core.List.{List}
 use mathlib.Core.Logic.{⊎-elim}
 use Prim.Native.Nat.{ℕ, _+_, _-_, _/_, _^_, _<_, _≤_}
 use native.Mathlib.Omega.{arith}
@@ -11,6 +11,7 @@ use lib.ListN.{length, getD}
 use lib.IntN.{ℤ, negℤ}
 use lib.Ieee.{Float, nan, inf, fin, ne, binary32, ofInt, toBits, isNan}
 use lib.Ieee.Compare.{differs-from-itself}
+use Rattle.chain.specs.Plan.{axisCounts}
 use Rattle.laws.specs.Test.{among}
 use Rattle.laws.specs.Claim.{Claim, _is_, _under_, _and_, upTo, each, given, Holds, sound}
 use Rattle.laws.specs.Integers.{counted}
@@ -20,7 +21,7 @@ use Rattle.laws.proofs.Search.{lt-or-le}
 use Rattle.mapper.specs.Levels.{whole, levelOf}
 use Rattle.demapper.specs.Demapped.{levelLabel, negatedLabel}
 use Rattle.demapper.specs.Asked.{keyOf, levelKeys, oneBitKeys, twoBitKeys, threeBitKeys, labelKeys, Tables, flipped}
-use Rattle.demapper.proofs.FirstLaws.{Found, found-is, first-found}
+use Rattle.laws.proofs.Least.{Found, found-is, first-found}
 
 -- a float that does not differ from itself is no NaN, and one that does has the NaN's pattern
 pub real : (x : Float) → ne x x ≡ false → T (not (isNan x))
@@ -42,7 +43,7 @@ negatedBits s label = toBits binary32 (whole (negℤ (levelOf s label)))
 
 -- the key of a label's level leads back to the label; the label at a key has the level there; at key 0 is none. Flipping gives the negative
 abbrev keyClaim : Claim
-keyClaim = each (1 ∷ 2 ∷ 3 ∷ []) λ s.
+keyClaim = each axisCounts λ s.
     length (labelKeys s) is 32
     and getD (labelKeys s) 0 0 is 2 ^ s
     and (upTo (2 ^ s) λ l.
@@ -59,7 +60,7 @@ keys : Holds keyClaim
 unfolding levelOf ofInt toBits labelKeys flipped
 keys = sound keyClaim tt
 
-module _ (s : ℕ) (known : T (among (1 ∷ 2 ∷ 3 ∷ []) s)) where
+module _ (s : ℕ) (known : T (among axisCounts s)) where
   pub keys-sized : length (labelKeys s) ≡ 32
   keys-sized = keys s known .0
 
@@ -186,13 +187,13 @@ keys-by s three two e g = sym (simp (e, g))
 
 -- an axis has at most eight labels
 abbrev fewClaim : Claim
-fewClaim = each (1 ∷ 2 ∷ 3 ∷ []) λ s. 2 ^ s under 9
+fewClaim = each axisCounts λ s. 2 ^ s under 9
 
-few : (s : ℕ) → T (among (1 ∷ 2 ∷ 3 ∷ []) s) → 2 ^ s ≤ 8
+few : (s : ℕ) → T (among axisCounts s) → 2 ^ s ≤ 8
 few s known = omega (arith, sound fewClaim tt s known)
 
 -- what stands at key 0
-module _ (s : ℕ) (labels : List ℕ) (known : T (among (1 ∷ 2 ∷ 3 ∷ []) s)) (e : labels ≡ labelKeys s) where
+module _ (s : ℕ) (labels : List ℕ) (known : T (among axisCounts s)) (e : labels ≡ labelKeys s) where
   pub all-labels : getD labels 0 0 ≡ 2 ^ s
   all-labels = ap (λ (l : List ℕ). getD l 0 0) e ∙ key-none s known
 

@@ -8,7 +8,7 @@ use lib.IntN.{ℤ, pos, natAbs}
 use lib.Ieee.{Float}
 use Rattle.laws.specs.Test.{among}
 use Rattle.laws.specs.Filled.{Filled}
-use Rattle.chain.specs.Plan.{bitCounts}
+use Rattle.chain.specs.Plan.{bitCounts, axisCounts}
 use Rattle.chain.specs.Parser.{axisBits}
 use Rattle.mapper.specs.Levels.{whole, levels}
 use Rattle.modulator.specs.Symbol.{turnedIf}
@@ -48,7 +48,7 @@ labelKeys s = cond (eqb s 3) threeBitKeys (cond (eqb s 2) twoBitKeys oneBitKeys)
 
 -- the tables at hand for an axis of s bits
 pub record Tables (s : ℕ) (levels labels : List ℕ) : Type 0 where
-  pub axis : T (among (1 ∷ 2 ∷ 3 ∷ []) s)
+  pub axis : T (among axisCounts s)
   pub levels-are : levels ≡ levelKeys
   pub labels-are : labels ≡ labelKeys s
 

@@ -1,10 +1,10 @@
 // A level's label from its float, by bits alone: a NaN, an infinity and -0 are no level.
 ghost use mathlib.Core.Path.{_≡_};
-ghost use mathlib.Core.List.{[], _∷_};
 ghost use Prim.Native.Nat.{_<_};
 ghost use lib.Dec.{T};
 ghost use lib.Ieee.{binary32, toBits};
 ghost use Rattle.laws.specs.Test.{among};
+ghost use Rattle.chain.specs.Plan.{axisCounts};
 ghost use Rattle.demapper.specs.Demapped.{levelLabel, negatedLabel};
 ghost use Rattle.demapper.specs.Asked.{keyOf, levelKeys, oneBitKeys, twoBitKeys, threeBitKeys, labelKeys, Tables, flipped};
 
@@ -116,7 +116,7 @@ pub fn negated_label(levels: &[u32], labels: &[u8], s: usize, x: f32) -> u8
 
 // A label with its first bit flipped.
 fn flip(labels: &[u8], s: usize, label: u8) -> u8
-    requires { ⌜ T (among (1 ∷ 2 ∷ 3 ∷ []) s) × ((now labels) ≡ labelKeys s) ⌝ }
+    requires { ⌜ T (among axisCounts s) × ((now labels) ≡ labelKeys s) ⌝ }
     ensures { λ r. ⌜ r ≡ flipped s label ⌝ }
 {
     let all = labels[0];

@@ -9,6 +9,7 @@ use demapper::point::hear_pilot;
 use pilots::pilot::pilot_sign;
 use pilots::pilot::polarity_bit;
 use subcarriers::layout::places_of;
+use subcarriers::layout::wide;
 ghost use mathlib.Core.Path.{_≡_};
 ghost use mathlib.Core.Bool.{_&&_};
 ghost use lib.Dec.{eqb, leb};
@@ -19,12 +20,6 @@ ghost use Rattle.detector.specs.Asked.{PlaceAsked, PlaceGiven, PlaceHear
 pub enum Search {
     AllGiven,
     At(usize, usize),
-}
-
-fn wide(number: u8) -> usize
-    ensures { λ r. ⌜ r ≡ number ⌝ }
-{
-    number as usize
 }
 
 // Whether place f is above 0 at 40 MHz.

@@ -10,8 +10,7 @@ use lib.Dec.{eqb, ltb}
 use lib.Ieee.{Float}
 use Rattle.laws.specs.Least.{firstFrom}
 use Rattle.laws.proofs.Refusing.{true-not-false}
-use Rattle.laws.proofs.Search.{first-is}
-use Rattle.demapper.proofs.FirstLaws.{Passing, NonePasses, first-cases, first-none}
+use Rattle.laws.proofs.Least.{first-is, Passing, NonePasses, first-cases, first-none}
 use Rattle.symbols.specs.Symbols.{symbolsOf}
 use Rattle.reader_state.specs.declared.state.OpenSettings.{OpenSettings}
 use Rattle.acceptance.specs.declared.accept.StepAnswer.{StepAnswer}

@@ -7,10 +7,10 @@ use native.Mathlib.Nat.{zero-add, add-assoc}
 use lib.Bits.{bitXor}
 use lib.ListN.{getD}
 use borrow.Author.Tests.{lt-ltb, le-ltb}
-use Rattle.laws.specs.Claim.{Claim, _is_, upTo, Holds, sound}
 use Rattle.laws.specs.Filled.{Filled}
 use Rattle.laws.proofs.Filling.{fill-at, fill-from, fill-as, fill-join, fill-end}
 use Rattle.laws.proofs.Search.{parts}
+use Rattle.laws.proofs.Xor.{xor-bits}
 use Rattle.chain.specs.Scrambler.{scramblerBit, stateAt}
 use Rattle.chain.specs.DataBits.{payloadBit, payloadEnd, tailEnd, dataBit, coderInput}
 use Rattle.chain.specs.Encoder.{withHistory}
@@ -29,13 +29,6 @@ module _ (raw outputs : ℕ → ℕ) (tail pad t : ℕ) where
 
   mixed-after : tail ≤ pad → pad ≤ t → mixedBit raw outputs tail pad t ≡ (raw t + outputs t) % 2
   mixed-after o h = let k : tail ≤ t = omega arith in simp (le-ltb t tail, le-ltb t pad)
-
--- the xor of two bits is their sum modulo 2
-abbrev xorClaim : Claim
-xorClaim = upTo 2 λ a. upTo 2 λ b. bitXor a b is (a + b) % 2
-
-xors : Holds xorClaim
-xors = sound xorClaim tt
 
 -- the places and counts of the three parts: up to the tail, the tail, and what is after it
 pub record ThreeParts (to skip tail pad count n₁ to₂ n₂ to₃ at₃ from₃ n₃ : ℕ) : Type 0 where
@@ -59,7 +52,7 @@ module _ (raw outputs : List ℕ) (skip tail pad count : ℕ) (ordered : tail �
   mixedAt t = mixedBit rawAt outAt tail pad t
 
   xor-is : (t : ℕ) → t < count → bitXor (rawAt t) (outAt t) ≡ (rawAt t + outAt t) % 2
-  xor-is t h = xors (rawAt t) (raw-bits (skip + t)) (outAt t) (out-bits t h)
+  xor-is t h = xor-bits (rawAt t) (raw-bits (skip + t)) (outAt t) (out-bits t h)
 
   before : (t : ℕ) → t < tail → bitXor (getD raw (skip + t) 0) (getD outputs (0 + t) 0) ≡ mixedAt t
   before t h = rw (zero-add t) (xor-is t (omega arith) ∙ sym (mixed-before rawAt outAt tail pad t h))

@@ -2,15 +2,19 @@
 use mathlib.Core.Path.{_≡_, refl, sym, subst}
 use mathlib.Core.Bool.{Bool, true, false}
 use mathlib.Core.Logic.{_⊎_, inl, inr, ⊎-elim}
-use Prim.Native.Nat.{ℕ, zero, suc, _+_, _<_, _≤_}
+use Prim.Native.Nat.{ℕ, zero, suc, _<_, _≤_}
 use native.Mathlib.Decide.{decLt}
 use native.Mathlib.Nat.{not-suc-le-zero, eq-or-lt-of-le, le-of-suc-le-suc}
 use native.Mathlib.Omega.{arith}
-use Rattle.laws.specs.Least.{firstFrom}
 
--- one of two numbers is the smaller, or they are in the other order
+-- a number is below another, or it is not
 pub lt-or-le : (a b : ℕ) → (a < b) ⊎ (b ≤ a)
 lt-or-le a b = elim (decLt a b) [ yes h ↦ inl h | no h ↦ inr (omega arith) ]
+
+-- a number that is not 0 is above it
+pub above : (n : ℕ) → (n ≡ 0 → ⊥) → 0 < n
+above zero h = absurd (h refl)
+above (suc n) h = omega arith
 
 -- a number is in one of the three parts that two others make
 pub parts : {P : Type 0} (a b t : ℕ) → (t < a → P) → (a ≤ t → t < b → P) → (b ≤ t → P) → P
@@ -40,12 +44,3 @@ search-below f (suc n) = ⊎-elim (λ a. go a (f n) refl) (λ (e : FirstFailing 
     go a true p =
         inl (λ k h. ⊎-elim (λ e. subst (λ (m : ℕ). f m ≡ true) (sym e) p) (λ l. a k l) (eq-or-lt-of-le (le-of-suc-le-suc h)))
     go a false p = inr (record { at = n; below = omega arith; fails = p; passed = a })
-
--- a number is the first to pass where it passes and none before it does
-pub first-is : (f : ℕ → Bool) (k n a : ℕ) → k ≤ a → a < k + n → f a ≡ true → ((b : ℕ) → k ≤ b → b < a → f b ≡ false) → firstFrom f k n ≡ a
-first-is f k zero a low high hit none = absurd (omega arith)
-first-is f k (suc n) a low high hit none =
-    ⊎-elim
-    (λ (e : k ≡ a). let t : f k ≡ true = subst (λ (m : ℕ). f m ≡ true) (sym e) hit in simp t e)
-    (λ (l : k < a). let t : f k ≡ false = none k (omega arith) l in simp t (first-is f (suc k) n a l (omega arith) hit (λ b h. none b (omega arith))))
-    (eq-or-lt-of-le low)

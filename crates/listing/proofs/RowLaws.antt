@@ -9,13 +9,12 @@ use Rattle.settings.specs.declared.settings.Refusal.{Refusal}
 use Rattle.settings.specs.declared.settings.Checked.{Checked}
 use Rattle.settings.specs.declared.settings.Checked.the-variants.{Accepted, Refused}
 use Rattle.symbols.specs.declared.count.Count.the-variants.{Symbols, Refused as CountRefused}
-use Rattle.sig_words.specs.declared.words.SigFields.{SigFields}
 use Rattle.settings.specs.Settings.{checkOf, numberOf}
 use Rattle.symbols.specs.Symbols.{symbolsOf, countOf}
-use Rattle.signal.specs.HtSig.{sigBytes, writtenInto}
+use Rattle.signal.specs.HtSig.{writtenInto}
 use Rattle.settings.proofs.SettingsLaws.{right}
 use Rattle.symbols.proofs.CountLaws.{symbols-few}
-use Rattle.signal.proofs.HtSigLaws.{rest-stays}
+use Rattle.signal.proofs.HtSigLaws.{rest-stays, six-length}
 use Rattle.parsing.specs.declared.numbers.Parsed.{Parsed}
 use Rattle.parsing.specs.declared.numbers.Parsed.the-variants.{Numbers, Malformed}
 use Rattle.text.specs.declared.printing.Row.{Row}
@@ -95,17 +94,13 @@ module _ (z i r : Row) (m w n : ℕ) (a : RawSettings) (ei : i ≡ pushedAll z (
 
 -- ---- a row has at most 40 bytes
 
-six : (g : SigFields) → length (sigBytes g) ≡ 6
-unfolding sigBytes
-six g = refl
-
 inputs-short : (m w n : ℕ) → length (inputsText m w n) ≤ 18
 inputs-short m w n =
     simp length-append (omega (arith, decimal-short m, decimal-short w, decimal-short n))
 
 answer-short : (x : Checked) → length (answerText x) ≤ 19
 answer-short (Accepted s) =
-    simp (length-append, hex-length, six) (omega (arith, decimal-short (symbolsOf s)))
+    simp (length-append, hex-length, six-length) (omega (arith, decimal-short (symbolsOf s)))
 answer-short (Refused r) = simp length-append (omega (arith, decimal-short (numberOf r)))
 
 by-short : (p : Parsed) → length (rowBy p) ≤ 40

@@ -14,6 +14,7 @@ use Rattle.laws.specs.Claim.{Claim, _is_, _and_, upTo, each, given, Holds, soun
 use Rattle.laws.specs.Integers.{counted}
 use Rattle.laws.proofs.Integers.{counted-same}
 use Rattle.chain.specs.Parser.{axisBits}
+use Rattle.chain.specs.Plan.{axisCounts}
 use Rattle.mapper.specs.Levels.{whole, LevelRow, oneBit, twoBits, threeBits, levelIn, levelOf, Levels, levels, carrierLevels, turned}
 use Rattle.mapper.specs.Mapped.{Small}
 use Rattle.mapper.specs.Bits.{wholeBits}
@@ -64,7 +65,7 @@ pub turned-small : (l : Levels) → Small l → Small (turned l)
 turned-small l h = record { first = neg-small (l .second) (h .second); second = h .first }
 
 abbrev levelClaim : Claim
-levelClaim = each (1 ∷ 2 ∷ 3 ∷ []) λ s. upTo (2 ^ s) λ l. upTo (2 ^ s) λ l′.
+levelClaim = each axisCounts λ s. upTo (2 ^ s) λ l. upTo (2 ^ s) λ l′.
     given (counted (levelOf s l)) (counted (levelOf s l′)) (l is l′)
 
 levels-differ : Holds levelClaim
@@ -72,7 +73,7 @@ unfolding levelOf
 levels-differ = sound levelClaim tt
 
 -- two labels of s bits with one level are equal
-pub level-told : (s l l′ : ℕ) → T (among (1 ∷ 2 ∷ 3 ∷ []) s) → l < 2 ^ s → l′ < 2 ^ s → levelOf s l ≡ levelOf s l′ → l ≡ l′
+pub level-told : (s l l′ : ℕ) → T (among axisCounts s) → l < 2 ^ s → l′ < 2 ^ s → levelOf s l ≡ levelOf s l′ → l ≡ l′
 level-told s l l′ h k k′ e = levels-differ s h l k l′ k′ (ap counted e)
 
 -- two whole numbers with one negative are equal

@@ -11,7 +11,7 @@ use lib.ListN.{length, getD}
 use lib.Ieee.{Float, nan, binary32, sub}
 use Rattle.laws.specs.Test.{among}
 use Rattle.laws.specs.Claim.{Claim, _is_, _under_, _and_, each, given, unless, Holds, sound}
-use Rattle.chain.specs.Plan.{bitCounts}
+use Rattle.chain.specs.Plan.{bitCounts, axisCounts}
 use Rattle.chain.specs.Parser.{axisBits}
 use Rattle.mapper.specs.declared.point.Point.{Point}
 use Rattle.mapper.specs.Levels.{whole, levelOf, Levels, carrierLevels, turned, pointOf}
@@ -29,14 +29,14 @@ listed-at f (suc n) zero h = refl
 listed-at f (suc n) (suc k) h = listed-at (λ j. f (suc j)) n k (le-of-suc-le-suc h)
 
 abbrev axisClaim : Claim
-axisClaim = each (1 ∷ 2 ∷ 3 ∷ []) λ s. 2 ^ s under 9 and unless s 1 (unless s 2 (s is 3))
+axisClaim = each axisCounts λ s. 2 ^ s under 9 and unless s 1 (unless s 2 (s is 3))
 
 -- an axis has at most eight levels; where it has neither one bit nor two, it has three
 pub axes : Holds axisClaim
 axes = sound axisClaim tt
 
 -- the eight floats of the labels 0 to 7 are a table of the levels
-pub tabled : (s t : ℕ) (table : List Float) → s ≡ t → T (among (1 ∷ 2 ∷ 3 ∷ []) t)
+pub tabled : (s t : ℕ) (table : List Float) → s ≡ t → T (among axisCounts t)
     → table ≡ listed (λ k. whole (levelOf t k)) 8 → LevelTable s table
 tabled s t table e h f = subst (λ (n : ℕ). LevelTable n table) (sym e) (record {
   sized = ap length f;

@@ -1,12 +1,12 @@
 // Points from half labels (document 01 step 6), and the quarter turn of step 8.
 ghost use mathlib.Core.Path.{_≡_};
-ghost use mathlib.Core.List.{[], _∷_};
 ghost use Prim.Native.Nat.{_+_, _<_, _≤_};
 ghost use lib.Dec.{T};
 ghost use lib.ListN.{length, getD};
 ghost use lib.Ieee.{nan};
 ghost use Rattle.laws.specs.Test.{among};
 ghost use Rattle.laws.specs.Filled.{Filled};
+ghost use Rattle.chain.specs.Plan.{axisCounts};
 ghost use Rattle.mapper.specs.Levels.{carrierLevels, pointOf};
 ghost use Rattle.mapper.specs.Mapped.{LevelTable, PointAsked, TurnsWhole, axisOf};
 
@@ -18,7 +18,7 @@ pub struct Point {
 
 // The levels of s bits of one axis, by their label with the first bit highest: one table for a symbol, so that no branch goes by its data.
 pub fn level_table(s: usize) -> [f32; 8]
-    requires { ⌜ T (among (1 ∷ 2 ∷ 3 ∷ []) s) ⌝ }
+    requires { ⌜ T (among axisCounts s) ⌝ }
     ensures { λ r. ⌜ LevelTable s r ⌝ }
 {
     if s == 1 {

@@ -6,7 +6,6 @@ use Prim.Native.Nat.{ℕ, zero, suc, _+_, _-_, _*_, _/_, _%_, _<_, _≤_}
 use native.Mathlib.Nat.{zero-add, suc-mul, mul-le-mul, mul-le-mul-left, mul-le-mul-right}
 use native.Mathlib.Numerals.{add-one}
 use native.Mathlib.Omega.{arith}
-use lib.Dec.{eqb}
 use lib.ListN.{length}
 use lib.IntN.{ℤ, pos, natAbs, _*ℤ_}
 use lib.Ieee.{Float, nan}
@@ -16,7 +15,7 @@ use Rattle.chain.specs.declared.plan.Plan.{Plan}
 use Rattle.chain.specs.Plan.{Fits}
 use Rattle.chain.specs.Parser.{axisBits}
 use Rattle.chain.specs.Labels.{halvesOf}
-use Rattle.chain.proofs.Counts.{streams-most}
+use Rattle.chain.proofs.Counts.{carriers-few, streams-most}
 use Rattle.chain.proofs.LabelLaws.{halves-most}
 use Rattle.mapper.specs.declared.point.Point.{Point}
 use Rattle.mapper.specs.Levels.{whole, Levels, levels, carrierLevels, pointOf}
@@ -28,7 +27,7 @@ use Rattle.subcarriers.specs.declared.layout.Use.the-variants.{Pilot, Data}
 use Rattle.subcarriers.specs.Subcarriers.{useOf, placesOf, subcarrierAt, pilotsOf, upper}
 use Rattle.subcarriers.specs.Runs.{halfRuns, runOf, runEnd, RunRight, RunsRight}
 use Rattle.subcarriers.proofs.SubcarrierLaws.{places-few}
-use Rattle.subcarriers.proofs.RunLaws.{runs-right, runs-some}
+use Rattle.subcarriers.proofs.RunLaws.{runs-right, runs-some, pilot-counts}
 use Rattle.pilots.specs.Pilots.{signOf, patternOf, polarityBit, pilotSign, PilotAsked}
 use Rattle.pilots.proofs.PilotLaws.{pilot-is, pilot-one}
 use Rattle.modulator.proofs.SymbolLaws.{stream-float}
@@ -91,14 +90,6 @@ run-more halves bits from to carrier k t p d₀ d d′ made filled put =
     (λ g h. ap₂ (λ (c j : ℕ). axisLevel (turnedIf t (carrierLevels bits (halvesFrom halves from) (carrier + c))) j) (sym (half-of k g h)) (sym (part-of k g h)))
     filled put
 
-few-carriers : (b : Bool) → cond b 108 52 ≤ 108
-few-carriers true = omega arith
-few-carriers false = omega arith
-
--- a pilot takes a place
-pilot-counts : (n : ℕ) (t : Bool) → t ≡ true → n + cond t 1 0 ≡ n + 1
-pilot-counts n t e = rw e
-
 -- where a run's points stand in a list of so many floats, and its pilot's after them
 pub record RunIn (run : Run) (base size : ℕ) : Type 0 where
   pub near : run .place + run .count ≤ 114
@@ -123,7 +114,7 @@ module _ {out : List Float} {halves : List ℕ} {table : List Float} {p : Plan} 
     tabled = asked .tabled;
     stands = halves-fewer (asked .stands) (run .carrier + run .count) (omega (arith, right .carriers-inside, asked .fits .carriers-is));
     room = run-in .inside;
-    few = omega (arith, right .carriers-inside, few-carriers (eqb (p .width) 40));
+    few = omega (arith, right .carriers-inside, carriers-few (p .width));
   }
 
   -- what its pilot asks

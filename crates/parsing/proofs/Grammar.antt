@@ -11,16 +11,13 @@ use lib.Dec.{ltb, leb, eqb}
 use lib.ListN.{length, getD, take, drop, length-append, length-drop, take-append-drop}
 use lib.Seq.{drop-cons, drop-drop, take-all, take-at, drop-append-add, getD-drop, getD-at, length-take-le}
 use Rattle.laws.specs.Stretch.{stretch}
-use Rattle.laws.proofs.Reflect.{and-true}
+use Rattle.laws.proofs.Reflect.{and-true, both-true}
 use Rattle.parsing.specs.declared.numbers.Parsed.{Parsed}
 use Rattle.parsing.specs.declared.numbers.Parsed.the-variants.{Numbers, Malformed}
-use Rattle.parsing.specs.Parsing.{isDigit, oneToFive, decimalValue, separatedAt, digitsEnd, valueIn, parsedOf, Small, AllDigits, Number, ThreeNumbers}
+use Rattle.parsing.specs.Parsing.{isDigit, oneToFive, decimalValue, separatedAt, digitsEnd, valueIn, parsedOf, Small, AllDigits, Number, ThreeNumbers, parsedAt}
 use Rattle.parsing.proofs.Values.{tens-most, value-below}
 
 -- ---- the tests
-
-true-and : {a b : Bool} → a ≡ true → b ≡ true → (a && b) ≡ true
-true-and e f = simp (e, f)
 
 pub five-true : (n : ℕ) → oneToFive n ≡ true → (1 ≤ n) × (n ≤ 5)
 five-true n e =
@@ -28,7 +25,7 @@ five-true n e =
     (leb-true 1 n (w .0), leb-true n 5 (w .1))
 
 true-five : (n : ℕ) → 1 ≤ n → n ≤ 5 → oneToFive n ≡ true
-true-five n h k = true-and (le-leb 1 n h) (le-leb n 5 k)
+true-five n h k = both-true (le-leb 1 n h) (le-leb n 5 k)
 
 pub third-true : (b c n : ℕ) → (oneToFive (c - (b + 1)) && eqb c n) ≡ true → (1 ≤ c - (b + 1)) × (c - (b + 1) ≤ 5) × (c ≡ n)
 third-true b c n e =
@@ -45,7 +42,7 @@ digit-true b e =
     (leb-true 48 b (w .0), leb-true b 57 (w .1))
 
 true-digit : (b : ℕ) → (48 ≤ b) × (b ≤ 57) → isDigit b ≡ true
-true-digit b h = true-and (le-leb 48 b (h .0)) (le-leb b 57 (h .1))
+true-digit b h = both-true (le-leb 48 b (h .0)) (le-leb b 57 (h .1))
 
 -- the ways out of the code's test for a separated number, by the tests' values
 pub separated-by : (l : List ℕ) (from to : ℕ) (p q : Bool) → oneToFive (to - from) ≡ p → ltb to (length l) ≡ q
@@ -74,12 +71,6 @@ separated-true l from to e =
 
 abbrev pub piece : List ℕ → ℕ → ℕ → List ℕ
 piece l from to = take (to - from) (drop from l)
-
-abbrev pub parsedAt : List ℕ → ℕ → ℕ → ℕ → Parsed
-parsedAt l a b c =
-    cond (separatedAt l 0 a && (separatedAt l (a + 1) b && (oneToFive (c - (b + 1)) && eqb c (length l))))
-    (Numbers (valueIn l 0 a) (valueIn l (a + 1) b) (valueIn l (b + 1) c))
-    Malformed
 
 pub parsed-at : (l : List ℕ) (a b c : ℕ) → a ≡ digitsEnd l 0 → b ≡ digitsEnd l (a + 1) → c ≡ digitsEnd l (b + 1)
     → parsedOf l ≡ parsedAt l a b c
@@ -210,8 +201,8 @@ read l from xs ys n e x =
     record {
       ends = ap (λ (s : ℕ). from + s) (sym (ap (stretch isDigit) e ∙ stretch-to-space xs ys (x .digit)));
       separated =
-          true-and (ap oneToFive k ∙ true-five (length xs) (x .some) (x .most))
-          (true-and (lt-ltb (from + length xs) (length l) (omega arith))
+          both-true (ap oneToFive k ∙ true-five (length xs) (x .some) (x .most))
+          (both-true (lt-ltb (from + length xs) (length l) (omega arith))
           (eq-eqb (getD l (from + length xs) 0) 32
           (sym (getD-drop from l (length xs) 0) ∙ ap (λ (t : List ℕ). getD t (length xs) 0) e ∙ getD-at xs 32 ys 0 (length xs) refl)));
       value =

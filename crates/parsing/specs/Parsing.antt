@@ -35,15 +35,20 @@ digitsEnd l from = from + stretch isDigit (drop from l)
 abbrev pub valueIn : List ℕ → ℕ → ℕ → ℕ
 valueIn l from to = decimalValue (take (to - from) (drop from l))
 
+-- a line whose digits end at a, at b behind a space, and at c behind another
+abbrev pub parsedAt : List ℕ → (a b c : ℕ) → Parsed
+parsedAt l a b c =
+    cond (separatedAt l 0 a && (separatedAt l (a + 1) b && (oneToFive (c - (b + 1)) && eqb c (length l))))
+    (Numbers (valueIn l 0 a) (valueIn l (a + 1) b) (valueIn l (b + 1) c))
+    Malformed
+
 -- the digits at the front, a space, the digits behind it, a space, and digits to the end
 unfoldable pub parsedOf : List ℕ → Parsed
 parsedOf l =
     let a = digitsEnd l 0 in
     let b = digitsEnd l (a + 1) in
     let c = digitsEnd l (b + 1) in
-    cond (separatedAt l 0 a && (separatedAt l (a + 1) b && (oneToFive (c - (b + 1)) && eqb c (length l))))
-    (Numbers (valueIn l 0 a) (valueIn l (a + 1) b) (valueIn l (b + 1) c))
-    Malformed
+    parsedAt l a b c
 
 -- the numbers of a parse have at most five digits
 abbrev pub Small : Parsed → Type 0

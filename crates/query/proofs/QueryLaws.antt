@@ -1,7 +1,7 @@
 -- What accepted settings and a frame's half labels give the question's inner functions, and its answer by the tests. Assumes nothing.
 use mathlib.Core.Path.{_≡_, _∙_, sym, ap, ap₂, subst}
 use mathlib.Core.Bool.{Bool, false, cond, _||_}
-use mathlib.Core.List.{List, [], _∷_}
+use mathlib.Core.List.{List}
 use Prim.Native.Nat.{ℕ, _+_, _*_, _/_, _%_, _<_, _≤_}
 use native.Mathlib.Nat.{mul-le-mul-right, suc-mul}
 use native.Mathlib.Omega.{arith}
@@ -13,7 +13,7 @@ use lib.Ieee.{Float}
 use Rattle.laws.specs.Test.{among}
 use Rattle.laws.proofs.Reflect.{or-false}
 use Rattle.chain.specs.declared.plan.Plan.{Plan}
-use Rattle.chain.specs.Plan.{Fits}
+use Rattle.chain.specs.Plan.{Fits, axisCounts}
 use Rattle.chain.specs.Parser.{axisBits}
 use Rattle.chain.specs.Labels.{halvesOf}
 use Rattle.chain.proofs.Counts.{axis-known, axis-some}
@@ -52,7 +52,7 @@ module _ (s : Settings) (r : Right s) (p : Plan) (t : ℕ) (e : p ≡ planFor s)
   fitting = subst Fits (sym e) (plan-fits s r)
 
   -- an axis has one, two or three bits
-  pub axis-among : T (among (1 ∷ 2 ∷ 3 ∷ []) t)
+  pub axis-among : T (among axisCounts t)
   axis-among = rw g (axis-known (p .bits) (fitting .bits))
 
   pub axis-above : 0 < t

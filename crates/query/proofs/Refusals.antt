@@ -4,14 +4,14 @@ use mathlib.Core.Bool.{Bool, true, false, cond, _||_}
 use mathlib.Core.List.{List, [], _∷_, _++_}
 use mathlib.Core.Logic.{_↔_}
 use Prim.Native.Nat.{ℕ, _-_}
-use lib.Dec.{T, ltb, leb}
+use lib.Dec.{ltb, leb}
 use lib.IntN.{ℤ, pos}
 use lib.ListN.{length}
 use lib.Signed.{ltZ, _<ℤ_}
 use Rattle.laws.specs.Integers.{minus}
 use Rattle.laws.specs.Refusals.{Rule}
 use Rattle.laws.proofs.Refusing.{given-exactly}
-use Rattle.laws.proofs.Reflect.{either}
+use Rattle.laws.proofs.Reflect.{T-true, true-T, either}
 use Rattle.subcarriers.specs.Subcarriers.{reach, outside}
 use Rattle.settings.specs.declared.settings.Refusal.the-variants.{Source, Place}
 use Rattle.settings.specs.declared.settings.RawSettings.{RawSettings}
@@ -26,12 +26,8 @@ use Rattle.query.specs.Query.{carriedOf, notInFrame, queryOf, queryNumbe
 use Rattle.query.specs.Statements.{OutsideRow, PlaceRow, QueryRefusals}
 use Rattle.settings.proofs.SettingsLaws.{planned-width}
 
-passed : (t : Bool) → T t → t ≡ true
-passed true h = refl
-passed false h = absurd h
-
 lower : (y z : ℤ) → (ltZ y z ≡ true) ↔ (y <ℤ z)
-lower y z = (λ e. record { lt = subst T (sym e) tt }, λ l. passed (ltZ y z) (l .lt))
+lower y z = (λ e. record { lt = true-T (ltZ y z) e }, λ l. T-true (ltZ y z) (l .lt))
 
 -- the row of the place, with its test
 module _ (a : RawSettings) where

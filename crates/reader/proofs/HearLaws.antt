@@ -1,12 +1,12 @@
 -- The step from a symbol's label bits on and from its points on, and the whole step by its tests. Assumes nothing.
 use mathlib.Core.Path.{_≡_, _∙_, refl, sym, ap, ap₂, subst}
-use mathlib.Core.Bool.{Bool, true, false, cond, not, _||_}
+use mathlib.Core.Bool.{Bool, true, false, cond, _||_}
 use mathlib.Core.List.{List, [], _∷_}
 use Prim.Native.Nat.{ℕ, zero, suc, _*_, _/_, _%_, _<_, _≤_}
 use native.Mathlib.Nat.{mul-comm, mod-lt, div-lt-iff-lt-mul}
 use native.Mathlib.Omega.{arith}
 use borrow.Author.Tests.{ltb-true, ltb-false}
-use lib.Dec.{T, eqb, ltb, ltb→lt}
+use lib.Dec.{T, ltb, ltb→lt}
 use lib.IntN.{ℤ}
 use lib.Ieee.{Float}
 use lib.ListN.{length, getD}
@@ -24,11 +24,12 @@ use Rattle.settings.specs.declared.settings.Checked.the-variants.{Accepted}
 use Rattle.settings.specs.Settings.{checkOf, planFor, Right}
 use Rattle.settings.proofs.SettingsLaws.{plan-fits, planned-width}
 use Rattle.subcarriers.specs.Subcarriers.{placesOf, subcarrierAt}
+use Rattle.subcarriers.proofs.SubcarrierLaws.{places-some}
 use Rattle.pilots.proofs.PilotLaws.{streams-range}
 use Rattle.frame.specs.Points.{floatsOf}
 use Rattle.detector.specs.declared.search.Search.{Search}
 use Rattle.detector.specs.declared.search.Search.the-variants.{AllGiven, At}
-use Rattle.detector.specs.Detected.{pointGiven, searchOf, shownBit}
+use Rattle.detector.specs.Detected.{searchOf, shownBit, failsAt}
 use Rattle.detector.specs.Asked.{BitsShown, SymbolAsked as SymbolBitsAsked}
 use Rattle.decoder.specs.Decoded.{historyMoved, SymbolAsked}
 use Rattle.deinterleaver.specs.Deinterleaved.{bitsIn}
@@ -223,19 +224,12 @@ found-few : (t : Bool) (places k : ℕ) → 0 < places → placeIn (cond t (At (
 found-few true places k some = mod-lt k some
 found-few false places k some = some
 
-places-some : (w : ℕ) → 0 < placesOf w
-places-some w = go (eqb w 40)
-  where
-    go : (b : Bool) → 0 < cond b 114 56
-    go true = omega arith
-    go false = omega arith
-
 search-few : (p : Plan) (points : List Float) (format n : ℕ) → placeIn (searchOf p points format n) < placesOf (p .width)
 unfolding searchOf
 search-few p points format n =
     let places = placesOf (p .width) in
     let total = p .streams * places in
-    let k = firstFrom (λ k. not (pointGiven p points format n (k / places) (k % places))) 0 total in
+    let k = firstFrom (failsAt p points format n) 0 total in
     found-few (ltb k total) places k (places-some (p .width))
 
 -- a place that the search found is one of the stream's
@@ -274,7 +268,7 @@ unfolding searchOf
 search-stream p points format n some =
     let places = placesOf (p .width) in
     let total = p .streams * places in
-    let k = firstFrom (λ k. not (pointGiven p points format n (k / places) (k % places))) 0 total in
+    let k = firstFrom (failsAt p points format n) 0 total in
     found-stream (ltb k total) (p .streams) places k some (places-some (p .width)) (λ e. ltb-true k total e)
 
 -- a stream that the search found is one of the plan's, and few

@@ -3,20 +3,16 @@
 use mathlib.Core.Path.{_≡_, _∙_, refl, ap}
 use mathlib.Core.Bool.{Bool, true, false}
 use mathlib.Core.List.{[], _∷_}
-use Prim.Native.Nat.{ℕ, zero, suc, _+_, _*_, _/_, _%_, _<_}
+use Prim.Native.Nat.{ℕ, _+_, _*_, _/_, _%_, _<_}
 use native.Mathlib.Omega.{arith}
 use lib.Dec.{eqb}
 use Rattle.sig_words.specs.Words.{oneIf}
+use Rattle.sig_words.proofs.WordLaws.{one-small, one-back}
 use Rattle.reader_state.specs.declared.state.OpenSettings.{OpenSettings}
 use Rattle.reader_state.specs.declared.state.Reader.{Reader}
 use Rattle.reader_numbers.specs.Numbers.{stateNumber, readerOf}
 
 -- ---- from the number
-
-one-back : (b : ℕ) → b < 2 → oneIf (eqb b 1) ≡ b
-one-back zero l = refl
-one-back (suc zero) l = refl
-one-back (suc (suc b)) l = omega arith
 
 summed : (x n h k z p e q₁ q₂ q₃ q₄ : ℕ) → x ≡ n + 65536 * q₁ → q₁ ≡ h + 256 * q₂ → q₂ ≡ k + 256 * q₃ → q₃ ≡ z + 256 * q₄ → q₄ ≡ p + 256 * e
     → n + 65536 * h + 16777216 * k + 4294967296 * z + 1099511627776 * p + 281474976710656 * e ≡ x
@@ -63,10 +59,6 @@ at-40 x r a q l s e = omega arith
 
 at-48 : (x r a : ℕ) → r < 281474976710656 → a < 2 → x ≡ r + 281474976710656 * a → x / 281474976710656 % 2 ≡ a
 at-48 x r a l s e = omega arith
-
-one-small : (e : Bool) → oneIf e < 2
-one-small true = omega arith
-one-small false = omega arith
 
 one-told : (e : Bool) → eqb (oneIf e) 1 ≡ e
 one-told true = refl

@@ -2,6 +2,7 @@
 use acceptance::accept::StepAnswer;
 use acceptance::accept::Stepped;
 use conversions::refused;
+use conversions::wide;
 use reader_place::place::PlaceAnswer;
 use reader_state::state::OpenSettings;
 use reader_state::state::Reader;
@@ -38,12 +39,6 @@ pub fn open_settings(
         aggregation: aggregation != 0,
         short_guard: short_guard != 0,
     }
-}
-
-fn wide(x: u8) -> u64
-    ensures { λ r. ⌜ (r ≡ x) × (r < 256) ⌝ }
-{
-    x as u64
 }
 
 // A state as a number.

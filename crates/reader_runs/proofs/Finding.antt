@@ -9,7 +9,7 @@ use native.Mathlib.Nat.{zero-mul}
 use native.Mathlib.Omega.{arith}
 use lib.Dec.{T, eqb, ltb}
 use borrow.Author.Tests.{lt-ltb, le-ltb, ltb-true}
-use Rattle.laws.proofs.Reflect.{and-true}
+use Rattle.laws.proofs.Reflect.{and-true, true-T}
 use Rattle.laws.proofs.Search.{lt-or-le}
 use Rattle.chain.specs.Scrambler.{stateAt, scramblerBit}
 use Rattle.chain.specs.DataBits.{inputWith}
@@ -23,7 +23,7 @@ use Rattle.settings.specs.Settings.{planFor, Right}
 use Rattle.settings.proofs.SettingsLaws.{plan-fits}
 use Rattle.symbols.specs.Symbols.{symbolsOf}
 use Rattle.deframer.specs.Deframed.{plainBit, inputOk}
-use Rattle.deframer.proofs.Framing.{true-T, framed-right, right-ok, ok-input}
+use Rattle.deframer.proofs.Framing.{framed-right, right-ok, ok-input}
 use Rattle.assembler.specs.Assembled.{payloadBefore, partOf}
 use Rattle.assembler.proofs.Packing.{packed-ext}
 use Rattle.reader_state.specs.declared.state.OpenSettings.{OpenSettings}

@@ -15,6 +15,7 @@ use lib.ListN.{take, drop}
 use Rattle.laws.specs.Firsts.{firsts}
 use Rattle.laws.proofs.Firsts.{firsts-ext}
 use Rattle.laws.proofs.Search.{lt-or-le}
+use Rattle.laws.proofs.Reflect.{T-true}
 use Rattle.chain.specs.Plan.{groupsOf, Fits}
 use Rattle.chain.specs.Scrambler.{stateAt, scramblerBit}
 use Rattle.chain.specs.Decoder.{historyAfter, dealt, decodes, labelAfter, historyBefore}
@@ -29,7 +30,7 @@ use Rattle.symbols.specs.Symbols.{symbolsOf}
 use Rattle.decoder.specs.Decoded.{historyMoved}
 use Rattle.decoder.proofs.ExtLaws.{moved-ext}
 use Rattle.deframer.specs.Deframed.{plainBit, framed}
-use Rattle.deframer.proofs.Framing.{T-true, ok-right, right-framed, input-ok}
+use Rattle.deframer.proofs.Framing.{ok-right, right-framed, input-ok}
 use Rattle.assembler.specs.Assembled.{payloadBefore, byteOf, partOf}
 use Rattle.assembler.proofs.Packing.{packed-ext, packed-bit}
 use Rattle.assembler.proofs.KnownBits.{known-old, known-new}

@@ -11,7 +11,6 @@ use Rattle.chain.specs.Scrambler.{stateAt}
 use Rattle.chain.specs.DataBits.{coderInput}
 use Rattle.chain.specs.Labels.{labelBit, halfLabel}
 use Rattle.chain.specs.Decoder.{historyBefore}
-use Rattle.settings.specs.declared.settings.RawSettings.{RawSettings}
 use Rattle.settings.specs.declared.settings.Settings.{Settings}
 use Rattle.settings.specs.Settings.{planFor, settingsOf}
 use Rattle.symbols.specs.Symbols.{symbolsOf}
@@ -23,22 +22,9 @@ use Rattle.reader_state.specs.declared.state.Reader.{Reader}
 use Rattle.reader_state.specs.State.{openRaw, firstBit}
 use Rattle.acceptance.specs.Accepted.{bitsBefore}
 
--- the settings that open settings mean, and the raw settings of a frame of theirs with a seed
+-- the settings that open settings mean
 abbrev pub settingsFor : OpenSettings → Settings
 settingsFor o = settingsOf (openRaw o)
-
-abbrev pub withSeed : OpenSettings → (seed : ℕ) → RawSettings
-withSeed o seed = record {
-  width = o .width;
-  mcs = o .mcs;
-  format = o .format;
-  length = o .length;
-  seed = seed;
-  smoothing = o .smoothing;
-  «not_sounding» = o .«not_sounding»;
-  aggregation = o .aggregation;
-  «short_guard» = o .«short_guard»;
-}
 
 -- the encoders' inputs of the frame (step 1)
 abbrev pub sentInput : (s : Settings) (v : ℕ → ℕ) (seed d : ℕ) → ℕ

@@ -11,6 +11,7 @@ use lib.Dec.{leb, ltb, eqb}
 use lib.ListN.{getD}
 use Rattle.laws.specs.Claim.{Claim, _is_, upTo, Holds, sound}
 use Rattle.laws.proofs.Reflect.{or-false}
+use Rattle.laws.proofs.Search.{above}
 use Rattle.chain.specs.declared.plan.Plan.{Plan}
 use Rattle.settings.specs.declared.settings.Settings.{Settings}
 use Rattle.settings.specs.declared.settings.Checked.the-variants.{Accepted}
@@ -55,10 +56,7 @@ scrambler-range symbol scrambler e n =
     let f : (eqb scrambler 0 || ltb 127 scrambler) ≡ false = simp (ne-eqb symbol 0 n) at e in
     let g = or-false (eqb scrambler 0) (ltb 127 scrambler) f in
     let low : scrambler ≡ 0 → ⊥ = eqb-false scrambler 0 (g .0) in
-    (some scrambler low, omega (arith, ltb-false 127 scrambler (g .1)))
-  where
-    some : (k : ℕ) → (k ≡ 0 → ⊥) → 0 < k
-    some k h = elim (ℕ-discrete k 0) [ yes z ↦ absurd (h z) | no z ↦ omega (arith, z) ]
+    (above scrambler low, omega (arith, ltb-false 127 scrambler (g .1)))
 
 scrambler-ok : (symbol scrambler : ℕ) → ((symbol ≡ 0 → ⊥) → 0 < scrambler) → ((symbol ≡ 0 → ⊥) → scrambler < 128) → badScrambler symbol scrambler ≡ false
 scrambler-ok symbol scrambler low high =

@@ -18,19 +18,23 @@ use Rattle.reader_state.specs.declared.state.StartAnswer.{StartAnswer}
 use Rattle.reader_state.specs.declared.state.StartAnswer.the-variants.{Ready, Refused as StartRefused}
 use Rattle.reader_state.specs.declared.state.Started.{Started}
 
--- "The reader is started with settings without a seed": 1, which is never refused, stands for it
-abbrev pub openRaw : OpenSettings → RawSettings
-openRaw o = record {
+-- the raw settings that settings without a seed and a seed make
+abbrev pub withSeed : OpenSettings → (seed : ℕ) → RawSettings
+withSeed o seed = record {
   width = o .width;
   mcs = o .mcs;
   format = o .format;
   length = o .length;
-  seed = 1;
+  seed = seed;
   smoothing = o .smoothing;
   «not_sounding» = o .«not_sounding»;
   aggregation = o .aggregation;
   «short_guard» = o .«short_guard»;
 }
+
+-- "The reader is started with settings without a seed": 1, which is never refused, stands for it
+abbrev pub openRaw : OpenSettings → RawSettings
+openRaw o = withSeed o 1
 
 -- a state of given settings with all numbers zero: begun, or closed from the start
 abbrev pub blank : OpenSettings → Bool → Reader

@@ -1,13 +1,14 @@
 -- Accepted settings are in range, and the numbers that follow from them. Assumes nothing.
 use mathlib.Core.Path.{_≡_, refl, sym, subst}
 use mathlib.Core.Bool.{Bool, true, false, cond, not, _||_}
-use Prim.Native.Nat.{ℕ, zero, suc, _≤_, _<_}
+use Prim.Native.Nat.{ℕ, _≤_}
 use native.Mathlib.Omega.{arith}
 use borrow.Author.Tests.{ltb-false, eqb-false, eqb-true}
 use lib.Dec.{T, eqb, ltb}
 use Rattle.laws.specs.Test.{among}
 use Rattle.laws.proofs.Refusing.{true-not-false}
 use Rattle.laws.proofs.Reflect.{or-false}
+use Rattle.laws.proofs.Search.{above}
 use Rattle.chain.specs.Plan.{widths, encoderCounts, streamsOf, planOf, Planned, Fits}
 use Rattle.chain.proofs.Plans.{fits}
 use Rattle.settings.specs.Settings.{numberOf, badWidth, badMcs, badFormat, badLength, badSeed, settingsOf, checkOf, encodersOf, planFor, Right}
@@ -21,10 +22,6 @@ use Rattle.settings.specs.declared.settings.Checked.the-variants.{Accept
 pub accepted-is : (a : RawSettings) → badWidth a ≡ false → badMcs a ≡ false → badFormat a ≡ false → badLength a ≡ false → badSeed a ≡ false
     → Accepted (settingsOf a) ≡ checkOf a
 accepted-is a w m f l s = simp (w, m, f, l, s)
-
-above : (n : ℕ) → (n ≡ 0 → ⊥) → 0 < n
-above zero h = absurd (h refl)
-above (suc n) h = omega arith
 
 in-widths : (a b : Bool) (w : ℕ) → eqb w 20 ≡ a → eqb w 40 ≡ b → not (a || b) ≡ false → T (among widths w)
 in-widths true b w p q e = subst (λ (v : ℕ). T (among widths v)) (sym (eqb-true w 20 p)) tt

@@ -2,14 +2,24 @@
 use mathlib.Core.Path.{_≡_, refl, ap, _∙_}
 use mathlib.Core.Bool.{Bool, true, false, cond, not}
 use mathlib.Core.List.{List, [], _∷_, _++_}
-use Prim.Native.Nat.{ℕ, _+_, _*_, _/_, _%_, _≤_}
+use Prim.Native.Nat.{ℕ, zero, suc, _+_, _*_, _/_, _%_, _<_, _≤_}
 use native.Mathlib.Omega.{arith}
 use lib.Dec.{eqb}
 use lib.ListN.{length, set, drop}
 use borrow.Author.Tests.{eqb-true, eqb-false}
 use Rattle.sig_crc.specs.Crc.{crcRun, crcField}
 use Rattle.sig_words.specs.declared.words.SigFields.{SigFields}
-use Rattle.sig_words.specs.Words.{headWord, sigWord, wordCrcWrong, fieldsInWord}
+use Rattle.sig_words.specs.Words.{oneIf, headWord, sigWord, wordCrcWrong, fieldsInWord}
+
+-- a flag as a number: 0 or 1, and it is known from it
+pub one-small : (b : Bool) → oneIf b < 2
+one-small true = omega arith
+one-small false = omega arith
+
+pub one-back : (x : ℕ) → x < 2 → oneIf (eqb x 1) ≡ x
+one-back zero h = refl
+one-back (suc zero) h = refl
+one-back (suc (suc x)) h = absurd (omega arith)
 
 pub same-fields : {x y : SigFields} → x .width ≡ y .width → x .mcs ≡ y .mcs → x .length ≡ y .length → x .smoothing ≡ y .smoothing
     → x .«not_sounding» ≡ y .«not_sounding» → x .aggregation ≡ y .aggregation → x .«short_guard» ≡ y .«short_guard» → x ≡ y

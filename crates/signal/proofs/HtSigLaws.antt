@@ -29,7 +29,7 @@ use Rattle.settings.specs.Settings.{checkOf, settingsOf, Right}
 use Rattle.signal.specs.HtSig.{low, value, packed, ones, shiftedOver, crcBits, headBits, sigBits, sigBytes, fieldsOf, writtenOf, writtenInto, writtenNumber, bitsIn, field, SourceRow, CrcRow, crcWrong, FormRow, formWrong, fieldsIn, readOf, readNumber}
 use Rattle.sig_crc.specs.Crc.{crcRun, crcField}
 use Rattle.sig_words.specs.Words.{oneIf, headWord, sigWord, sixOf, wordIn, wordCrcWrong, wordFormWrong, fieldsInWord, SigFits}
-use Rattle.sig_words.proofs.WordLaws.{same-fields}
+use Rattle.sig_words.proofs.WordLaws.{same-fields, one-small, one-back}
 use Rattle.laws.specs.Bytes.{AreBytes}
 use Rattle.signal.specs.Statements.{ReadExactly, ReadRefusals, RoomRow, WriteRefusals}
 use Rattle.settings.proofs.SettingsLaws.{right, accepted-is}
@@ -39,19 +39,15 @@ use Rattle.signal.proofs.Registers.{crc-value, two-sent, field-small}
 
 -- ---- the field that is written
 
-one-two : (b : Bool) → oneIf b < 2
-one-two true = omega arith
-one-two false = omega arith
-
 abbrev flags : SigFields → List ℕ
 flags g = oneIf (g .smoothing) ∷ oneIf (g .«not_sounding») ∷ 1 ∷ oneIf (g .aggregation) ∷ 0 ∷ 0 ∷ 0 ∷ oneIf (g .«short_guard») ∷ 0 ∷ 0 ∷ []
 
 two-flags : (g : SigFields) → Two (flags g)
-two-flags g = (one-two (g .smoothing), (one-two (g .«not_sounding»), (omega arith, (one-two (g .aggregation), (omega arith, (omega arith, (omega arith, (one-two (g .«short_guard»), (omega arith, (omega arith, tt))))))))))
+two-flags g = (one-small (g .smoothing), (one-small (g .«not_sounding»), (omega arith, (one-small (g .aggregation), (omega arith, (omega arith, (omega arith, (one-small (g .«short_guard»), (omega arith, (omega arith, tt))))))))))
 
 two-head : (g : SigFields) → Two (headBits g)
 unfolding headBits
-two-head g = two-append (low 7 (g .mcs)) (oneIf (eqb (g .width) 40) ∷ (low 16 (g .length) ++ flags g)) (two-low 7 (g .mcs)) (one-two (eqb (g .width) 40), two-append (low 16 (g .length)) (flags g) (two-low 16 (g .length)) (two-flags g))
+two-head g = two-append (low 7 (g .mcs)) (oneIf (eqb (g .width) 40) ∷ (low 16 (g .length) ++ flags g)) (two-low 7 (g .mcs)) (one-small (eqb (g .width) 40), two-append (low 16 (g .length)) (flags g) (two-low 16 (g .length)) (two-flags g))
 
 length-head : (g : SigFields) → length (headBits g) ≡ 34
 unfolding headBits
@@ -348,11 +344,6 @@ passed w c f =
       rest = eqb-true _ _ (not-false _ (f6 .1));
     }
 
-bit-one : (x : ℕ) → x < 2 → oneIf (eqb x 1) ≡ x
-bit-one zero h = refl
-bit-one (suc zero) h = refl
-bit-one (suc (suc x)) h = absurd (omega arith)
-
 width-one : (x : ℕ) → x < 2 → oneIf (eqb (cond (eqb x 1) 40 20) 40) ≡ x
 width-one zero h = refl
 width-one (suc zero) h = refl
@@ -389,8 +380,8 @@ head-again : (w : ℕ) → Passed w → headWord (fieldsInWord w) ≡ w % 171798
 unfolding headWord fieldsInWord
 head-again w p =
     let below : (x : ℕ) → x % 2 < 2 = λ x. omega arith in
-    together (w % 128) (w / 256 % 65536) (width-one (w / 128 % 2) (below (w / 128))) (bit-one (w / 16777216 % 2) (below (w / 16777216))) (bit-one (w / 33554432 % 2) (below (w / 33554432)))
-    (bit-one (w / 134217728 % 2) (below (w / 134217728))) (bit-one (w / 2147483648 % 2) (below (w / 2147483648)))
+    together (w % 128) (w / 256 % 65536) (width-one (w / 128 % 2) (below (w / 128))) (one-back (w / 16777216 % 2) (below (w / 16777216))) (one-back (w / 33554432 % 2) (below (w / 33554432)))
+    (one-back (w / 134217728 % 2) (below (w / 134217728))) (one-back (w / 2147483648 % 2) (below (w / 2147483648)))
     ∙ ap (λ (x : ℕ). w % 128 + 128 * (w / 128 % 2) + 256 * (w / 256 % 65536) + 16777216 * x) (sym (flag-parts w p))
     ∙ ap (λ (x : ℕ). x + 16777216 * (w / 16777216 % 1024)) (sym (low-parts w))
     ∙ sym (two-parts w)
@@ -557,7 +548,7 @@ read-refusals l = go (eqb (length l) 6) refl
 
 -- ---- what the write leaves
 
-six-length : (g : SigFields) → length (sigBytes g) ≡ 6
+pub six-length : (g : SigFields) → length (sigBytes g) ≡ 6
 unfolding sigBytes
 six-length g = refl
 

@@ -12,13 +12,9 @@ use Rattle.settings.specs.declared.settings.Refusal.{Refusal}
 use Rattle.settings.specs.declared.settings.Refusal.the-variants.{Source, SigCrc, SigForm}
 use Rattle.sig_words.specs.declared.words.SigFields.{SigFields}
 use Rattle.signal.specs.declared.ht_sig.SigRead.the-variants.{Fields, Refused}
-use Rattle.signal.specs.HtSig.{low, value, bitsIn, field, crcWrong, formWrong, fieldsIn, readOf}
+use Rattle.signal.specs.HtSig.{value, bitsIn, field, crcWrong, formWrong, fieldsIn, readOf}
 use Rattle.sig_words.specs.Words.{SigFits}
-use Rattle.signal.proofs.Bits.{Two, two-low, two-append}
-
-two-in : (l : List ℕ) → Two (bitsIn l)
-two-in [] = tt
-two-in (b ∷ bs) = two-append (low 8 b) (bitsIn bs) (two-low 8 b) (two-in bs)
+use Rattle.signal.proofs.Bits.{Two, two-in}
 
 two-drop : (n : ℕ) (l : List ℕ) → Two l → Two (drop n l)
 two-drop zero l t = t

@@ -1,1 +1,3 @@
+-- The laws of this crate, file by file.
 pub mod SourceLaws
+pub mod TableLaws

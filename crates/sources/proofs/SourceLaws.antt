@@ -1,7 +1,7 @@
 -- The interleaver's inverse of stream 0 with its divisors written out, and the parser of one stream bit: what the functions of the table compute.
 -- Assumes nothing.
 use mathlib.Core.Path.{_≡_, _∙_, sym, subst}
-use mathlib.Core.List.{List, [], _∷_}
+use mathlib.Core.List.{List}
 use Prim.Native.Nat.{ℕ, _+_, _*_, _/_, _%_, _<_, _≤_}
 use native.Mathlib.Nat.{mul-le-mul}
 use native.Mathlib.Omega.{arith}
@@ -11,7 +11,7 @@ use Rattle.laws.specs.Test.{among}
 use Rattle.laws.specs.Claim.{Claim, _is_, _under_, _and_, upTo, each, unless, Holds, sound}
 use Rattle.laws.specs.Filled.{Filled}
 use Rattle.laws.proofs.Filling.{fill-at}
-use Rattle.chain.specs.Plan.{widths, bitCounts, Fits}
+use Rattle.chain.specs.Plan.{widths, bitCounts, Fits, axisCounts}
 use Rattle.chain.specs.declared.plan.Plan.{Plan}
 use Rattle.chain.specs.Parser.{axisBits}
 use Rattle.chain.specs.Interleaver.{columns, rows, rotation, blockOf, shiftOf, source, unrotated, unalternated, byRows, sourceForm}
@@ -113,7 +113,7 @@ pub block-most : (w b : ℕ) → T (among widths w) → T (among bitCounts b) �
 block-most w b hw hb = omega (arith, smalls w hw b hb)
 
 abbrev threeClaim : Claim
-threeClaim = each (1 ∷ 2 ∷ 3 ∷ []) λ s. unless s 1 (unless s 2 (s is 3))
+threeClaim = each axisCounts λ s. unless s 1 (unless s 2 (s is 3))
 
 -- the last number of bits an axis has
 pub three-left : Holds threeClaim

@@ -1,10 +1,10 @@
 -- Where each label bit stands among a symbol's coded bits, as the code tables it.
-use mathlib.Core.List.{List, [], _∷_}
+use mathlib.Core.List.{List}
 use Prim.Native.Nat.{ℕ, _+_, _*_, _<_, _≤_}
 use lib.Dec.{T}
 use lib.ListN.{length, getD}
 use Rattle.laws.specs.Test.{among}
-use Rattle.chain.specs.Plan.{widths, bitCounts, encoderCounts, Fits}
+use Rattle.chain.specs.Plan.{widths, bitCounts, encoderCounts, Fits, axisCounts}
 use Rattle.chain.specs.declared.plan.Plan.{Plan}
 use Rattle.chain.specs.Parser.{axisBits, encoderOf, indexOf}
 use Rattle.chain.specs.Interleaver.{blockOf, source}
@@ -30,13 +30,13 @@ pub record SourcesAsked (table : List ℕ) (width bits count : ℕ) : Type 0 whe
   pub room : count ≤ length table
 
 pub record ParsedAsked (s streams encoders k : ℕ) : Type 0 where
-  pub axis : T (among (1 ∷ 2 ∷ 3 ∷ []) s)
+  pub axis : T (among axisCounts s)
   pub few-streams : streams ≤ 4
   pub one-or-two : T (among encoderCounts encoders)
   pub inside : k < 648
 
 pub record ParseAsked (table : List ℕ) (s streams encoders count : ℕ) : Type 0 where
-  pub axis : T (among (1 ∷ 2 ∷ 3 ∷ []) s)
+  pub axis : T (among axisCounts s)
   pub few-streams : streams ≤ 4
   pub one-or-two : T (among encoderCounts encoders)
   pub few : count ≤ 648

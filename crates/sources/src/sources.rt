@@ -111,3 +111,10 @@ pub fn label_sources(table: &mut [u16], plan: Plan)
         block,
     );
 }
+
+// An entry of the table as a place.
+pub fn wide(entry: u16) -> usize
+    ensures { λ r. ⌜ r ≡ entry ⌝ }
+{
+    entry as usize
+}

@@ -7,6 +7,7 @@ use lib.Dec.{T}
 use Rattle.laws.specs.Test.{among}
 use Rattle.laws.specs.Claim.{Claim, _is_, _under_, _and_, upTo, each, given, Holds, sound}
 use Rattle.chain.specs.Plan.{widths, carriersOf}
+use Rattle.chain.proofs.Counts.{carriers-few}
 use Rattle.subcarriers.specs.declared.layout.Run.{Run}
 use Rattle.subcarriers.specs.declared.layout.Use.the-variants.{Pilot, Data}
 use Rattle.subcarriers.specs.Subcarriers.{usedSubcarriers, pilotSubcarriers, dataSubcarriers, useOf, placesOf, subcarrierAt, pilotsOf, upper}
@@ -66,18 +67,22 @@ runs-right width h =
     }
 
 abbrev countClaim : Claim
-countClaim = each widths λ w. 0 under 2 * halfRuns w and carriersOf w under 109
+countClaim = each widths λ w. 0 under 2 * halfRuns w
 
 counts : Holds countClaim
 counts = sound countClaim tt
 
 -- there is a run
 pub runs-some : (width : ℕ) → T (among widths width) → 0 < 2 * halfRuns width
-runs-some width h = counts width h .0
+runs-some width h = counts width h
+
+-- a pilot takes a place
+pub pilot-counts : (n : ℕ) (t : Bool) → t ≡ true → n + cond t 1 0 ≡ n + 1
+pilot-counts n t e = rw e
 
 -- a run's carriers are few
 pub carrier-few : (width : ℕ) → T (among widths width) → (run : Run) → RunRight width run → (k : ℕ) → k < run .count → run .carrier + k < 108
-carrier-few width h run right k l = omega (arith, right .carriers-inside, counts width h .1)
+carrier-few width h run right k l = omega (arith, right .carriers-inside, carriers-few width)
 
 -- the first run begins at the first place
 pub begins : (width : ℕ) → T (among widths width) → (f : ℕ) (run : Run) → run ≡ runOf width 0 → run .place ≤ f

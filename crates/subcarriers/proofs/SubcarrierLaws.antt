@@ -259,7 +259,14 @@ pub sizes-are : Holds sizesClaim
 unfolding usedSubcarriers pilotSubcarriers dataSubcarriers
 sizes-are = sound sizesClaim tt
 
--- a stream has at most 114 places
+-- a stream has places, and at most 114
+pub places-some : (w : ℕ) → 0 < placesOf w
+places-some w = go (eqb w 40)
+  where
+    go : (b : Bool) → 0 < cond b 114 56
+    go true = omega arith
+    go false = omega arith
+
 pub places-few : (w : ℕ) → placesOf w ≤ 114
 places-few w = go (eqb w 40)
   where

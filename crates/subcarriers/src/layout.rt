@@ -49,7 +49,8 @@ const CARRIERS_40: [u8; 8] = [0, 5, 32, 45, 54, 63, 76, 103];
 
 const COUNTS_40: [u8; 8] = [5, 27, 13, 9, 9, 13, 27, 5];
 
-fn wide(entry: u8) -> usize
+// An entry of a table as a number of places.
+pub fn wide(entry: u8) -> usize
     ensures { λ r. ⌜ r ≡ entry ⌝ }
 {
     entry as usize

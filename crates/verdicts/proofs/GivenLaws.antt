@@ -1,7 +1,7 @@
 -- A point is given exactly where the rules give it; what the search's answer says; what a symbol's own floats show. Assumes of the plan that it fits.
 use mathlib.Core.Path.{_≡_, _∙_, refl, sym, ap, ap₂, subst}
 use mathlib.Core.Bool.{Bool, true, false, cond, not, _&&_}
-use mathlib.Core.List.{List, [], _∷_}
+use mathlib.Core.List.{List}
 use mathlib.Core.Logic.{_↔_, _⊎_, inl, inr, ⊎-elim}
 use Prim.Native.Nat.{ℕ, _+_, _-_, _*_, _/_, _%_, _^_, _<_, _≤_}
 use native.Mathlib.Nat.{mod-lt, div-add-mod', div-lt-iff-lt-mul}
@@ -15,10 +15,10 @@ use Rattle.laws.specs.Test.{among}
 use Rattle.laws.specs.Claim.{Claim, _under_, each, sound}
 use Rattle.laws.specs.Least.{firstFrom}
 use Rattle.laws.proofs.Radix.{rem-of, quot-of}
-use Rattle.laws.proofs.Reflect.{and-true}
+use Rattle.laws.proofs.Reflect.{and-true, both-true}
 use Rattle.laws.proofs.Search.{lt-or-le}
 use Rattle.chain.specs.declared.plan.Plan.{Plan}
-use Rattle.chain.specs.Plan.{bitCounts, Fits}
+use Rattle.chain.specs.Plan.{bitCounts, Fits, axisCounts}
 use Rattle.chain.specs.Parser.{axisBits}
 use Rattle.chain.specs.Labels.{halvesOf}
 use Rattle.chain.proofs.Counts.{axis-known, axis-some, bits-some}
@@ -27,15 +27,15 @@ use Rattle.mapper.proofs.CarrierLaws.{halves-one, halves-two}
 use Rattle.subcarriers.specs.declared.layout.Use.{Use}
 use Rattle.subcarriers.specs.declared.layout.Use.the-variants.{Silent, Pilot, Data}
 use Rattle.subcarriers.specs.Subcarriers.{useOf, placesOf, subcarrierAt, upper}
-use Rattle.subcarriers.proofs.SubcarrierLaws.{place-used-for}
+use Rattle.subcarriers.proofs.SubcarrierLaws.{place-used-for, places-some}
 use Rattle.pilots.specs.Pilots.{pilotSign}
 use Rattle.modulator.specs.Symbol.{turnedIf, sentLevels, axisLevel, streamFloats}
 use Rattle.modulator.proofs.SymbolLaws.{sent-used, symbol-at, symbol-ext}
 use Rattle.detector.specs.declared.search.Search.the-variants.{AllGiven, At}
 use Rattle.demapper.specs.Demapped.{sameBits, levelLabel, negatedLabel, firstLabel, secondLabel, dataGiven, bitOfLabel, pointBit}
-use Rattle.detector.specs.Detected.{floatAt, usedGiven, pointGiven, foundAt, searchOf, carrierPlaceOf, shownBit, GivenByRules, PointByRules}
+use Rattle.detector.specs.Detected.{floatAt, usedGiven, pointGiven, foundAt, searchOf, carrierPlaceOf, shownBit, GivenByRules, PointByRules, failsAt}
 use Rattle.verdicts.specs.Searches.{AllPass, FirstFailing, FloatsOf, ShownBack}
-use Rattle.demapper.proofs.FirstLaws.{Passing, NonePasses, first-cases}
+use Rattle.laws.proofs.Least.{Passing, NonePasses, first-cases}
 use Rattle.demapper.proofs.LabelLaws.{level-found, negated-found}
 use Rattle.demapper.proofs.PointLaws.{axis-one, axis-two, first-bits, second-bits}
 use Rattle.detector.proofs.SearchLaws.{carrier-place-in, carrier-place-use, point-bit, given-as, shown-at, carrier-of}
@@ -63,19 +63,16 @@ record Shows (s : ℕ) (single t : Bool) (x y : Float) (a b : ℕ) : Type 0 wher
   second : toBits binary32 y ≡ toBits binary32 (whole (turnedIf t (pairOf s single a b) .second))
 
 abbrev powClaim : Claim
-powClaim = each (1 ∷ 2 ∷ 3 ∷ []) λ s. 0 under 2 ^ s
+powClaim = each axisCounts λ s. 0 under 2 ^ s
 
-pow-some : (s : ℕ) → T (among (1 ∷ 2 ∷ 3 ∷ []) s) → 0 < 2 ^ s
+pow-some : (s : ℕ) → T (among axisCounts s) → 0 < 2 ^ s
 pow-some = sound powClaim tt
 
 zero-told : (b : Bool) → ltb (cond b 0 1) 1 ≡ true → b ≡ true
 zero-told true e = refl
 zero-told false e = e
 
-both-true : {a b : Bool} → a ≡ true → b ≡ true → (a && b) ≡ true
-both-true e g = simp (e, g)
-
-module _ (s : ℕ) (known : T (among (1 ∷ 2 ∷ 3 ∷ []) s)) (x y : Float) where
+module _ (s : ℕ) (known : T (among axisCounts s)) (x y : Float) where
   -- the second label that a point shows
   abbrev secondOf : (single t : Bool) → ℕ
   secondOf single t = cond single 0 (cond t (negatedLabel s x) (levelLabel s y))
@@ -191,7 +188,7 @@ second-as y e g = subst (λ (v : Levels). toBits binary32 y ≡ toBits binary32 
 
 -- ---- a place
 module _ (p : Plan) (fits : Fits p) (format n i : ℕ) (z : ℤ) (x y : Float) where
-  abbrev axis : T (among (1 ∷ 2 ∷ 3 ∷ []) (axisBits (p .bits)))
+  abbrev axis : T (among axisCounts (axisBits (p .bits)))
   axis = axis-known (p .bits) (fits .bits)
 
   abbrev turn : Bool
@@ -287,10 +284,6 @@ not-back : (b t : Bool) → not b ≡ t → b ≡ not t
 not-back true t e = ap not e
 not-back false t e = ap not e
 
-pub places-some : (b : Bool) → 0 < cond b 114 56
-places-some true = omega arith
-places-some false = omega arith
-
 module _ (p : Plan) (points : List Float) (format n : ℕ) where
   abbrev width : ℕ
   width = placesOf (p .width)
@@ -298,18 +291,15 @@ module _ (p : Plan) (points : List Float) (format n : ℕ) where
   abbrev total : ℕ
   total = p .streams * placesOf (p .width)
 
-  abbrev failing : ℕ → Bool
-  failing k = not (pointGiven p points format n (k / placesOf (p .width)) (k % placesOf (p .width)))
-
   abbrev first : ℕ
-  first = firstFrom failing 0 total
+  first = firstFrom (failsAt p points format n) 0 total
 
   search-first : searchOf p points format n ≡ foundAt width total first
   unfolding searchOf
   search-first = refl
 
   -- a point that the search passed
-  pub passed-at : (i f : ℕ) → f < placesOf (p .width) → failing (i * placesOf (p .width) + f) ≡ false → pointGiven p points format n i f ≡ true
+  pub passed-at : (i f : ℕ) → f < placesOf (p .width) → failsAt p points format n (i * placesOf (p .width) + f) ≡ false → pointGiven p points format n i f ≡ true
   passed-at i f l e =
       let k = i * width + f in
       sym (ap₂ (pointGiven p points format n) (quot-of width i f k l refl) (rem-of width i f k l refl))
@@ -319,27 +309,27 @@ module _ (p : Plan) (points : List Float) (format n : ℕ) where
   pub search-cases : AllPass p points format n ⊎ FirstFailing p points format n
   search-cases =
       ⊎-elim
-      (λ (s : Passing failing 0 total first).
+      (λ (s : Passing (failsAt p points format n) 0 total first).
       let below : first < total = omega (arith, s .below) in
       let split : first / width * width + first % width ≡ first = div-add-mod' first width in
       inr (record {
         stream = first / width;
         place = first % width;
         found = search-first ∙ ap (λ (b : Bool). cond b (At (first / width) (first % width)) AllGiven) (lt-ltb first total below);
-        stream-in = div-lt-iff-lt-mul {k = width} (places-some (eqb (p .width) 40)) .1 below;
-        place-in = mod-lt first (places-some (eqb (p .width) 40));
+        stream-in = div-lt-iff-lt-mul {k = width} (places-some (p .width)) .1 below;
+        place-in = mod-lt first (places-some (p .width));
         fails = not-back (pointGiven p points format n (first / width) (first % width)) true (s .passes);
         streams-before = λ i f l u. passed-at i f u (s .first (i * width + f) (omega arith)
             (earlier first split i f l u));
-        places-before = λ f l. passed-at (first / width) f (less l (mod-lt first (places-some (eqb (p .width) 40))))
+        places-before = λ f l. passed-at (first / width) f (less l (mod-lt first (places-some (p .width))))
             (s .first (first / width * width + f) (omega arith) (omega (arith, split)));
       }))
-      (λ (s : NonePasses failing 0 total first).
+      (λ (s : NonePasses (failsAt p points format n) 0 total first).
       inl (record {
         all-given = search-first ∙ ap (λ (b : Bool). cond b (At (first / width) (first % width)) AllGiven) (le-ltb first total (omega (arith, s .beyond)));
         passed = λ i f l u. passed-at i f u (s .fails (i * width + f) (omega arith) (in-total (digits-lt l u)));
       }))
-      (first-cases failing 0 total)
+      (first-cases (failsAt p points format n) 0 total)
     where
       earlier : (k : ℕ) → k / width * width + k % width ≡ k → (i f : ℕ) → i < k / width → f < width → i * width + f < k
       earlier k split i f l u = omega (arith, digits-lt l u, split)
@@ -351,6 +341,9 @@ module _ (p : Plan) (points : List Float) (format n : ℕ) where
       in-total l = omega (arith, l)
 
 -- ---- a symbol's own floats
+doubled : (c s : ℕ) → c * (s + s) ≡ 2 * c * s
+doubled c s = omega arith
+
 -- bit r of a stream is bit r % s of half label r / s: of a carrier's only one, or of its first or second
 module _ (bits : ℕ) (known : T (among bitCounts bits)) (t : Bool) (x y : Float) (h : ℕ → ℕ) (r : ℕ) where
   abbrev carrier : ℕ
@@ -364,9 +357,6 @@ module _ (bits : ℕ) (known : T (among bitCounts bits)) (t : Bool) (x y : Float
 
   rest-in : r % bits < bits
   rest-in = mod-lt r (bits-some bits known)
-
-  doubled : (c s : ℕ) → c * (s + s) ≡ 2 * c * s
-  doubled c s = omega arith
 
   next : (c s : ℕ) → (2 * c + 1) * s ≡ 2 * c * s + s
   next c s = omega arith
@@ -475,12 +465,9 @@ module _ (p : Plan) (fits : Fits p) (h : ℕ → ℕ → ℕ) (points : List Flo
           let b : p .bits ≡ 1 → ⊥ = eqb-false (p .bits) 1 e in
           let size : p .block ≡ 2 * p .carriers * axisBits (p .bits) =
           fits .block-is ∙ ap (λ (k : ℕ). p .carriers * k) (sym (axis-two (p .bits) (fits .bits) b))
-          ∙ twice (p .carriers) (axisBits (p .bits)) in
+          ∙ doubled (p .carriers) (axisBits (p .bits)) in
           subst (λ (k : ℕ). r / axisBits (p .bits) < k) (sym (halves-two p fits b))
           (div-lt-iff-lt-mul {k = axisBits (p .bits)} some .1 (subst (λ (k : ℕ). r < k) size l))
-        where
-          twice : (c s : ℕ) → c * (s + s) ≡ 2 * c * s
-          twice c s = omega arith
 
   -- the floats of half labels are given, and show the half labels' bits
   pub shown-back : ShownBack p h points format n

@@ -6,7 +6,7 @@ use mathlib.Core.List.{List, [], _∷_}
 use mathlib.Core.Logic.{_↔_, _⊎_, inl, inr, ⊎-elim}
 use Prim.Native.Nat.{ℕ, _+_, _<_}
 use native.Mathlib.Omega.{arith}
-use borrow.Author.Tests.{ltb-false, le-ltb}
+use borrow.Author.Tests.{ltb-false, le-ltb, not-true}
 use lib.Dec.{T, eqb, ltb}
 use lib.ListN.{length}
 use lib.IntN.{ℤ, pos}
@@ -14,7 +14,7 @@ use lib.Ieee.{Float}
 use Rattle.laws.specs.Test.{below, below-of}
 use Rattle.laws.specs.Refusals.{Rule, firstOf}
 use Rattle.laws.proofs.Refusing.{given-exactly, true-not-false}
-use Rattle.laws.proofs.Reflect.{less, either}
+use Rattle.laws.proofs.Reflect.{less, either, T-true}
 use Rattle.laws.proofs.Search.{AllBelow, FirstFailing as FirstWrong, search-below}
 use Rattle.chain.specs.Decoder.{decodes}
 use Rattle.settings.specs.declared.settings.Refusal.the-variants.{Room, Code, Frame, Closed}
@@ -35,7 +35,7 @@ use Rattle.verdicts.specs.Searches.{AllPass, FirstFailing}
 use Rattle.verdicts.proofs.GivenLaws.{given-exactly as given-by-rules, search-cases, shown-bit}
 use Rattle.decoder.proofs.ExtLaws.{code-exactly}
 use Rattle.deframer.specs.Deframed.{inputOk, framed}
-use Rattle.deframer.proofs.Framing.{T-true, framed-exactly, right-ok}
+use Rattle.deframer.proofs.Framing.{framed-exactly, right-ok}
 use Rattle.reader_state.specs.declared.state.OpenSettings.{OpenSettings}
 use Rattle.reader_state.specs.declared.state.Reader.{Reader}
 use Rattle.acceptance.specs.declared.accept.StepAnswer.{StepAnswer}
@@ -60,14 +60,7 @@ not-both true b p q = (λ e. inr (q .0 e), ⊎-elim (λ x. absurd (true-not-fals
 not-both false b p q = (λ e. inl (p .0 refl), λ s. refl)
 
 not-some : (k : ℕ) → (not (ltb 0 k) ≡ true) ↔ (k ≡ 0)
-not-some k = (λ e. omega (arith, ltb-false 0 k (flip (ltb 0 k) e)), λ e. back (le-ltb 0 k (omega (arith, e))))
-  where
-    flip : (t : Bool) → not t ≡ true → t ≡ false
-    flip true e = sym e
-    flip false e = refl
-
-    back : {t : Bool} → t ≡ false → not t ≡ true
-    back e = simp e
+not-some k = (λ e. omega (arith, ltb-false 0 k (not-true (ltb 0 k) e)), λ e. simp (le-ltb 0 k (omega (arith, e))))
 
 -- a test of all below a number fails at one of them
 some-fails : (f : ℕ → Bool) (n : ℕ) → not (below f n) ≡ true → FirstWrong f n

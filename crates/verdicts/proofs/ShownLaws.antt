@@ -1,7 +1,7 @@
 -- A symbol's points are the floats of its half labels exactly where they pass the search and show its label bits. Assumes of the plan that it fits.
 use mathlib.Core.Path.{_≡_, _∙_, refl, sym, ap, ap₂, subst}
 use mathlib.Core.Bool.{Bool, true, false}
-use mathlib.Core.List.{List, [], _∷_}
+use mathlib.Core.List.{List}
 use mathlib.Core.Logic.{⊎-elim}
 use Prim.Native.Nat.{ℕ, zero, suc, _+_, _-_, _*_, _/_, _%_, _^_, _<_}
 use native.Mathlib.Nat.{mod-lt, div-add-mod', div-lt-iff-lt-mul}
@@ -14,7 +14,7 @@ use Rattle.laws.specs.Test.{among}
 use Rattle.laws.specs.Claim.{Claim, _is_, upTo, each, sound}
 use Rattle.laws.proofs.Radix.{rem-of, quot-of}
 use Rattle.chain.specs.declared.plan.Plan.{Plan}
-use Rattle.chain.specs.Plan.{Fits}
+use Rattle.chain.specs.Plan.{Fits, axisCounts}
 use Rattle.chain.specs.Parser.{axisBits}
 use Rattle.chain.specs.Labels.{labelBit, written, halfLabel}
 use Rattle.chain.proofs.Counts.{axis-known, axis-some, bits-some}
@@ -23,7 +23,7 @@ use Rattle.mapper.specs.Levels.{whole, Levels}
 use Rattle.subcarriers.specs.declared.layout.Use.{Use}
 use Rattle.subcarriers.specs.declared.layout.Use.the-variants.{Silent, Pilot, Data}
 use Rattle.subcarriers.specs.Subcarriers.{useOf, placesOf, subcarrierAt, upper, UseRight}
-use Rattle.subcarriers.proofs.SubcarrierLaws.{use-right, place-used-for}
+use Rattle.subcarriers.proofs.SubcarrierLaws.{use-right, place-used-for, places-some}
 use Rattle.modulator.specs.Symbol.{turnedIf, sentLevels, axisLevel, streamFloats, symbolFloat}
 use Rattle.modulator.proofs.SymbolLaws.{sent-used, symbol-at}
 use Rattle.detector.specs.declared.search.Search.the-variants.{AllGiven}
@@ -33,18 +33,18 @@ use Rattle.detector.specs.Detected.{floatAt, searchOf, shownBit, PointByRules}
 use Rattle.verdicts.specs.Searches.{AllPass, FirstFailing, ShownBack}
 use Rattle.demapper.proofs.PointLaws.{axis-one, axis-two}
 use Rattle.detector.proofs.SearchLaws.{carrier-place-is, shown-at, found-none}
-use Rattle.verdicts.proofs.GivenLaws.{pairOf, firstHalf, secondHalf, sent-pair, half-in, data-back, given-exactly, places-some, search-cases, pointed, shown-back}
+use Rattle.verdicts.proofs.GivenLaws.{pairOf, firstHalf, secondHalf, sent-pair, half-in, data-back, given-exactly, search-cases, pointed, shown-back}
 
 -- ---- a label and its bits
 -- the bits of a label write it
 abbrev bitsClaim : Claim
-bitsClaim = each (1 ∷ 2 ∷ 3 ∷ []) λ s. upTo (2 ^ s) λ l. written (bitOfLabel s l) 0 s is l
+bitsClaim = each axisCounts λ s. upTo (2 ^ s) λ l. written (bitOfLabel s l) 0 s is l
 
-bits-write : (s : ℕ) → T (among (1 ∷ 2 ∷ 3 ∷ []) s) → (l : ℕ) → l < 2 ^ s → written (bitOfLabel s l) 0 s ≡ l
+bits-write : (s : ℕ) → T (among axisCounts s) → (l : ℕ) → l < 2 ^ s → written (bitOfLabel s l) 0 s ≡ l
 unfolding written
 bits-write = sound bitsClaim tt
 
-module _ (s : ℕ) (known : T (among (1 ∷ 2 ∷ 3 ∷ []) s)) where
+module _ (s : ℕ) (known : T (among axisCounts s)) where
   -- a label is the number that the same bits write from any place
   label-written : (f : ℕ → ℕ) (a l : ℕ) → l < 2 ^ s → ((t : ℕ) → t < s → bitOfLabel s l t ≡ f (a + t)) → l ≡ written f a s
   label-written f a l h same =
@@ -73,7 +73,7 @@ module _ (p : Plan) (fits : Fits p) (x : ℕ → ℕ) (points : List Float) (for
   abbrev s : ℕ
   s = axisBits (p .bits)
 
-  abbrev axis : T (among (1 ∷ 2 ∷ 3 ∷ []) (axisBits (p .bits)))
+  abbrev axis : T (among axisCounts (axisBits (p .bits)))
   axis = axis-known (p .bits) (fits .bits)
 
   abbrev half : ℕ → ℕ → ℕ
@@ -178,7 +178,7 @@ module _ (p : Plan) (fits : Fits p) (x : ℕ → ℕ) (points : List Float) (for
   pub shown-floats : searchOf p points format n ≡ AllGiven → LabelsShown p x points n → HalfFloats p x points format n
   shown-floats e shown g l =
       let floats = streamFloats (p .width) in
-      let some : 0 < floats = omega (arith, places-some (eqb (p .width) 40)) in
+      let some : 0 < floats = omega (arith, places-some (p .width)) in
       let i = g / floats in
       let k = g % floats in
       let f = k / 2 in

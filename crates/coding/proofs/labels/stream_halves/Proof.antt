@@ -1,8 +1,9 @@
+-- `stream_halves`: the two runs round a stream's rotation are the stream.
 use native.Mathlib.Omega.{arith}
 use denote.Ref.{now}
 use borrow.Author.Needs.{needs}
 use Rattle.chain.proofs.InterleaverLaws.{stream-below-four}
-use Rattle.coding.proofs.HalfLaws.{Turned, carriers-few, rotated-few, turned, stream-near, shift-few, turned-halves, turned-run}
+use Rattle.coding.proofs.HalfLaws.{Turned, carriers-most, rotated-few, turned, stream-near, shift-few, turned-halves, turned-run}
 use Rattle.coding.proofs.labels.stream_halves.Statement.{statement}
 use Rattle.coding.proofs.labels.stream_halves.Tie as tie
 
@@ -36,7 +37,7 @@ axis-bits-requires : tie.Need-axis-bits-requires
 axis-bits-requires c κs = search needs
 
 halves-of-requires : tie.Need-halves-of-requires
-halves-of-requires c κs = let a = start c in carriers-few (a .args .plan) (a .pre .fits)
+halves-of-requires c κs = let a = start c in carriers-most (a .args .plan) (a .pre .fits)
 
 rotated-carriers-requires : tie.Need-rotated-carriers-requires
 rotated-carriers-requires c κs =

@@ -1,6 +1,6 @@
 -- `symbol_bits`: before each place, every point passed is given and its label bits are stored.
 use mathlib.Core.Path.{_≡_, _∙_, sym, subst}
-use mathlib.Core.List.{List, [], _∷_}
+use mathlib.Core.List.{List}
 use Prim.Native.Nat.{ℕ, _-_, _<_, _≤_}
 use native.Mathlib.Omega.{arith}
 use borrow.Author.Needs.{needs}
@@ -8,6 +8,7 @@ use lib.Dec.{T}
 use denote.Ref.{now}
 use Rattle.laws.specs.Test.{among}
 use Rattle.chain.proofs.Counts.{axis-known}
+use Rattle.chain.specs.Plan.{axisCounts}
 use Rattle.subcarriers.specs.Subcarriers.{placesOf}
 use Rattle.demapper.specs.Asked.{PointTables}
 use Rattle.detector.proofs.SearchLaws.{RowsHeard, PlacesHeard, rows-none, places-none, places-more, rows-more, answer-all, answer-at}
@@ -45,7 +46,7 @@ tables c =
       known = a .pre .fits .bits;
       axis-is = s .ensures;
       tables = record {
-        axis = subst (λ (k : ℕ). T (among (1 ∷ 2 ∷ 3 ∷ []) k)) (sym (s .ensures)) (axis-known (a .args .plan .bits) (a .pre .fits .bits));
+        axis = subst (λ (k : ℕ). T (among axisCounts k)) (sym (s .ensures)) (axis-known (a .args .plan .bits) (a .pre .fits .bits));
         levels-are = c .before .before .before .before .level-keys .ensures;
         labels-are = c .before .before .before .label-keys .ensures;
       };

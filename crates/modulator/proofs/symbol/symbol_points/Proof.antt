@@ -1,5 +1,5 @@
+-- `symbol_points` writes the symbol stream by stream.
 use mathlib.Core.Path.{_≡_, sym, ap, subst}
-use mathlib.Core.List.{[], _∷_}
 use Prim.Native.Nat.{ℕ, _-_, _*_, _/_, _≤_}
 use native.Mathlib.Omega.{arith}
 use lib.Dec.{T}
@@ -11,6 +11,7 @@ use Rattle.laws.specs.Filled.{Filled}
 use Rattle.laws.proofs.Filling.{fill-none, fill-end}
 use Rattle.chain.specs.Labels.{halvesOf}
 use Rattle.chain.proofs.Counts.{axis-known, axis-some}
+use Rattle.chain.specs.Plan.{axisCounts}
 use Rattle.mapper.specs.Mapped.{LevelTable}
 use Rattle.modulator.specs.Symbol.{streamFloats, symbolFloat}
 use Rattle.modulator.specs.Asked.{halvesIn}
@@ -80,7 +81,7 @@ stream-points-requires c κs =
 level-table-requires : tie.Need-level-table-requires Inv-loop μ-loop
 level-table-requires c κs =
     let a = c .before .before .before in
-    subst (λ (s : ℕ). T (among (1 ∷ 2 ∷ 3 ∷ []) s)) (sym (c .axis-bits .ensures)) (axis-known (a .args .plan .bits) (a .pre .fits .bits))
+    subst (λ (s : ℕ). T (among axisCounts s)) (sym (c .axis-bits .ensures)) (axis-known (a .args .plan .bits) (a .pre .fits .bits))
 
 axis-bits-requires : tie.Need-axis-bits-requires Inv-loop μ-loop
 axis-bits-requires c κs = search needs

@@ -1,5 +1,5 @@
+-- `label_sources`: the interleaver's table, parsed in place, is the table of label sources.
 use mathlib.Core.Path.{subst, sym}
-use mathlib.Core.List.{[], _∷_}
 use Prim.Native.Nat.{ℕ, _<_}
 use native.Mathlib.Omega.{arith}
 use lib.Dec.{T}
@@ -9,6 +9,7 @@ use Rattle.laws.proofs.Filling.{fill-at}
 use Rattle.chain.specs.Interleaver.{source}
 use Rattle.chain.proofs.InterleaverLaws.{plan-block}
 use Rattle.chain.proofs.Counts.{axis-known}
+use Rattle.chain.specs.Plan.{axisCounts}
 use Rattle.sources.proofs.SourceLaws.{small, source-small, parsed-table}
 use Rattle.sources.proofs.sources.label_sources.Statement.{statement}
 use Rattle.sources.proofs.sources.label_sources.Tie as tie
@@ -73,7 +74,7 @@ parse-requires c κs =
     let p = a .args .plan in
     let t = first .stream-sources .ensures in
     record {
-      axis = subst (λ (s : ℕ). T (among (1 ∷ 2 ∷ 3 ∷ []) s)) (sym (axis .axis-bits .ensures)) (axis-known (p .bits) (a .pre .fits .bits));
+      axis = subst (λ (s : ℕ). T (among axisCounts s)) (sym (axis .axis-bits .ensures)) (axis-known (p .bits) (a .pre .fits .bits));
       few-streams = small p (a .pre .fits) .streams;
       one-or-two = a .pre .fits .encoders;
       few = small p (a .pre .fits) .block;

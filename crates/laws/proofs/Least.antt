@@ -1,4 +1,4 @@
--- What a bounded search by `firstFrom` gives, and a search for a number among the values of a function. Assumes nothing.
+-- What a search by `firstFrom` gives, and a search for a number among the values of a function. Assumes nothing.
 use mathlib.Core.Path.{_≡_, _∙_, refl, sym, subst}
 use mathlib.Core.Bool.{Bool, true, false, cond}
 use mathlib.Core.Logic.{_⊎_, inl, inr, ⊎-elim}
@@ -37,6 +37,15 @@ first-cases f k (suc n) = go (f k) refl (first-cases f (suc k) n)
     go false p (inl s) =
         inl (record { from = omega (arith, s .from); below = omega (arith, s .below); passes = s .passes; first = this p (s .first) })
     go false p (inr s) = inr (record { beyond = omega (arith, s .beyond); fails = this p (λ b l u. s .fails b l (omega arith)) })
+
+-- a number is the first to pass where it passes and none before it does
+pub first-is : (f : ℕ → Bool) (k n a : ℕ) → k ≤ a → a < k + n → f a ≡ true → ((b : ℕ) → k ≤ b → b < a → f b ≡ false) → firstFrom f k n ≡ a
+first-is f k zero a low high hit none = absurd (omega arith)
+first-is f k (suc n) a low high hit none =
+    ⊎-elim
+    (λ (e : k ≡ a). let t : f k ≡ true = subst (λ (m : ℕ). f m ≡ true) (sym e) hit in simp t e)
+    (λ (l : k < a). let t : f k ≡ false = none k (omega arith) l in simp t (first-is f (suc k) n a l (omega arith) hit (λ b h. none b (omega arith))))
+    (eq-or-lt-of-le low)
 
 -- a search in which none passes
 pub first-none : (f : ℕ → Bool) (k n : ℕ) → ((b : ℕ) → k ≤ b → b < k + n → f b ≡ false) → firstFrom f k n ≡ k + n
