@@ -1,3 +1,4 @@
+-- The laws of this crate, file by file.
 pub mod Plans
 pub mod Counts
 pub mod ScramblerLaws

@@ -1,3 +1,4 @@
+-- The definitions of this crate, file by file.
 pub mod Plan
 pub mod Scrambler
 pub mod DataBits

@@ -1,3 +1,4 @@
+-- The laws of this crate, file by file.
 pub mod FrameBits
 pub mod Calls
 pub mod Reading

@@ -1,3 +1,4 @@
+-- The definitions of this crate, file by file.
 pub mod Frames
 pub mod Demand2
 pub mod Demand3

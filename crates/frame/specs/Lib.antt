@@ -1,3 +1,4 @@
+-- The definitions of this crate, file by file.
 pub mod Points
 pub mod Compared
 pub mod Asked

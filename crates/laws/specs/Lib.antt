@@ -1,3 +1,4 @@
+-- The definitions of this crate, file by file.
 pub mod Test
 pub mod Claim
 pub mod Least

@@ -1,3 +1,4 @@
+-- The laws of this crate, file by file.
 pub mod Parts
 pub mod Hear
 pub mod Finding

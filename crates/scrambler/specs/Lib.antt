@@ -1,0 +1,1 @@
+-- The definitions of this crate, file by file.

@@ -1,3 +1,4 @@
+-- The laws of this crate, file by file.
 pub mod Bits
 pub mod Registers
 pub mod HtSigLaws

@@ -1,3 +1,4 @@
+-- The definitions of this crate, file by file.
 pub mod Symbols
 pub mod Worked
 pub mod Statements

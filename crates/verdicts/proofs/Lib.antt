@@ -1,3 +1,4 @@
+-- The laws of this crate, file by file.
 pub mod GivenLaws
 pub mod StepCases
 pub mod Refusals

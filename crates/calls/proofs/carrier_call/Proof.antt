@@ -1,3 +1,4 @@
+-- `carrier_call`: a number for each answer, and the floats of what is carried.
 use mathlib.Core.Path.{_≡_, _∙_, sym, ap, subst}
 use mathlib.Core.Bool.{true, false}
 use mir.Facts.{toZ-ofZ}

@@ -1,3 +1,4 @@
+-- `count_call`: a number for each answer.
 use mathlib.Core.Path.{sym, ap, _∙_}
 use native.Mathlib.Omega.{arith}
 use Rattle.symbols.proofs.CountLaws.{count-few}

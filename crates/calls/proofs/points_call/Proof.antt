@@ -1,3 +1,4 @@
+-- `points_call`: a number for each answer; the floats are the call's own.
 use mathlib.Core.Path.{_≡_, sym, ap, _∙_}
 use Prim.Native.Nat.{ℕ, _≤_}
 use native.Mathlib.Omega.{arith}

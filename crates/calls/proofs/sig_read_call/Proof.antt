@@ -1,3 +1,4 @@
+-- `sig_read_call`: a number for each answer.
 use denote.Ref.{now}
 use mathlib.Core.Path.{sym, ap, _∙_}
 use native.Mathlib.Omega.{arith}

@@ -1,3 +1,4 @@
+-- `sig_write_call`: a number for each answer; the bytes are the call's own.
 use mathlib.Core.Path.{sym, ap, _∙_}
 use Rattle.conversions.specs.Results.{writtenResult}
 use borrow.Author.Needs.{needs}

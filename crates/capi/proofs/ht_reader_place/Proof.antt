@@ -1,3 +1,4 @@
+-- `ht_reader_place` gathers its settings and calls on.
 use denote.Ref.{now}
 use mathlib.Core.Path.{_∙_, ap}
 use Rattle.reader_state.specs.declared.state.OpenSettings.{OpenSettings}

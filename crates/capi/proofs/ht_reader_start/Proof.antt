@@ -1,3 +1,4 @@
+-- `ht_reader_start` gathers its settings and calls on.
 use mathlib.Core.Path.{_∙_, ap}
 use Rattle.reader_state.specs.declared.state.OpenSettings.{OpenSettings}
 use Rattle.reader_state.specs.State.{startOf}

@@ -1,3 +1,4 @@
+-- `ht_symbol_count` gathers its settings and calls on.
 use mathlib.Core.Path.{_∙_, ap}
 use Rattle.settings.specs.declared.settings.RawSettings.{RawSettings}
 use Rattle.settings.specs.Settings.{checkOf}

@@ -1,3 +1,4 @@
+-- `negated` is small enough for a number with a sign.
 use Rattle.conversions.proofs.Minus.{minus-fits, minus-back}
 use borrow.Author.Needs.{needs}
 use Rattle.conversions.proofs.negated.Statement.{statement}

@@ -1,3 +1,4 @@
+-- `put_carried` goes by what is carried.
 use mathlib.Core.Path.{_∙_, sym, ap}
 use lib.IntN.{pos}
 use denote.Ref.{now}

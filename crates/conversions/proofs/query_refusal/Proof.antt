@@ -1,3 +1,4 @@
+-- `query_refusal`: an answer that carries something is ruled out.
 use mathlib.Core.Path.{subst}
 use Rattle.conversions.specs.Results.{IsRefusedQuery}
 use borrow.Author.Needs.{needs}

@@ -1,3 +1,4 @@
+-- `raw_settings` is the definition, field by field.
 use mathlib.Core.Path.{refl}
 use Rattle.conversions.proofs.raw_settings.Statement.{statement}
 use Rattle.conversions.proofs.raw_settings.Tie as tie

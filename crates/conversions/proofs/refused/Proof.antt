@@ -1,3 +1,4 @@
+-- `refused` negates a refusal's number, which is small.
 use mathlib.Core.Path.{_∙_, ap, subst, sym}
 use Prim.Native.Nat.{ℕ, _<_}
 use Rattle.laws.specs.Integers.{minus}

@@ -1,3 +1,4 @@
+-- `print_lines` goes on along the chain of next lines; each turn gets nearer to the end.
 use Prim.Native.Nat.{_+_, _-_}
 use mathlib.Core.Path.{_∙_, sym}
 use lib.Seq.{length-take-le}

@@ -1,3 +1,4 @@
+-- `main` meets what each call asks.
 use Rattle.laws.proofs.Filling.{fill-small}
 use Rattle.chain.proofs.InputLaws.{input-bit, line-bit}
 use borrow.Author.Needs.{needs}

@@ -1,3 +1,4 @@
+-- `print_bits` prints one digit a turn.
 use Prim.Native.Nat.{_-_, _≤_}
 use borrow.Author.Needs.{needs}
 use Rattle.published.proofs.print_bits.Statement.{statement}

@@ -1,3 +1,4 @@
+-- `place_call` goes by whether the number is a state's.
 use Rattle.reader_numbers.specs.Numbers.{PlaceRight}
 use mathlib.Core.Path.{_∙_, sym, subst}
 use denote.Ref.{now}

@@ -1,3 +1,4 @@
+-- `start_call`: a number for each answer.
 use Rattle.reader_state.specs.declared.state.StartAnswer.the-variants.{Ready, Refused as StartRefused}
 use mathlib.Core.Path.{_∙_, ap}
 use native.Mathlib.Omega.{arith}

@@ -1,3 +1,4 @@
+-- `step_call` goes by whether the number is a state's.
 use Prim.Native.Nat.{_+_, _*_, _%_}
 use mathlib.Core.Path.{_∙_, ap}
 use native.Mathlib.Omega.{arith}

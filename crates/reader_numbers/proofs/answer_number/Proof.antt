@@ -1,3 +1,4 @@
+-- `answer_number`: document 01's number of each answer.
 use mathlib.Core.Path.{_∙_, sym, ap, subst}
 use Prim.Native.Nat.{ℕ, _<_}
 use Rattle.reader.specs.Step.{stepNumber}

@@ -1,3 +1,4 @@
+-- `found_number`: stream and subcarrier are small.
 use mathlib.Core.Path.{_∙_, ap}
 use native.Mathlib.Omega.{arith}
 use Prim.Native.Nat.{ℕ, _+_, _*_}

@@ -1,3 +1,4 @@
+-- `place_number`: a number for each answer.
 use mir.Syntax.{w32, w64}
 use mir.Val.{toZ, ofZ}
 use mathlib.Core.Path.{_≡_, _∙_, sym, ap, subst}

@@ -1,3 +1,4 @@
+-- `state_number` adds the fields up, each at its place.
 use native.Mathlib.Omega.{arith}
 use Rattle.reader_numbers.specs.Numbers.{stateNumber}
 use borrow.Author.Needs.{needs}

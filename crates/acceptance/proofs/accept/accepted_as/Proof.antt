@@ -1,3 +1,4 @@
+-- `accepted_as` goes by whether the symbol is the first.
 use Rattle.acceptance.proofs.accept.accepted_as.Statement.{statement}
 use Rattle.acceptance.proofs.accept.accepted_as.Tie as tie
 

@@ -1,3 +1,4 @@
+-- `hear_inputs` puts the parts together: the scrambler, the plain bits, the test, the bytes and the state after them.
 use Rattle.acceptance.specs.Asked.{bitsOf}
 use mathlib.Core.Path.{_∙_, sym}
 use native.Mathlib.Omega.{arith}

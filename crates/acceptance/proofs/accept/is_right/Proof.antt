@@ -1,3 +1,4 @@
+-- `is_right` is the test of the frame's own bits, and of a seed that is not 0.
 use denote.Ref.{now}
 use mathlib.Core.Path.{ap}
 use native.Mathlib.Omega.{arith}

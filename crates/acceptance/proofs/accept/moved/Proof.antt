@@ -1,3 +1,4 @@
+-- `moved` sets each field of the state as the definition does.
 use native.Mathlib.Omega.{arith}
 use Rattle.reader_state.proofs.StateLaws.{symbol-few}
 use Rattle.acceptance.proofs.AcceptedLaws.{moved-by}

@@ -1,3 +1,4 @@
+-- `put_bytes` asks for the payload's bytes by the numbers of the settings.
 use denote.Ref.{now}
 use native.Mathlib.Omega.{arith}
 use Rattle.reader_state.proofs.StateLaws.{bits-near, symbol-few}

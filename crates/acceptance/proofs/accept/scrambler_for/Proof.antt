@@ -1,3 +1,4 @@
+-- `scrambler_for` goes by whether the symbol is the first.
 use mathlib.Core.Path.{_∙_}
 use Rattle.acceptance.proofs.AcceptedLaws.{scrambler-first, scrambler-later}
 use Rattle.acceptance.proofs.accept.scrambler_for.Statement.{statement}

@@ -1,3 +1,4 @@
+-- `axis_bits` goes by whether there is one bit.
 use native.Mathlib.Omega.{arith}
 use Rattle.chain.specs.Parser.{axisBits}
 use Rattle.chain.proofs.plan.axis_bits.Statement.{statement}

@@ -1,3 +1,4 @@
+-- `carriers_of` goes by the width.
 use Rattle.chain.proofs.plan.carriers_of.Statement.{statement}
 use Rattle.chain.proofs.plan.carriers_of.Tie as tie
 

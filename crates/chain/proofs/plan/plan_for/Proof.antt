@@ -1,3 +1,4 @@
+-- `plan_for`: its two tables are the definition's, and each product is small.
 use native.Mathlib.Omega.{arith}
 use Rattle.chain.specs.Plan.{planOf}
 use Rattle.chain.proofs.Plans.{products}

@@ -1,3 +1,4 @@
+-- `coded_at`: the table's entry and the shift are inside the coded bits.
 use borrow.Author.Needs.{needs}
 use Rattle.coding.proofs.labels.coded_at.Statement.{statement}
 use Rattle.coding.proofs.labels.coded_at.Tie as tie

@@ -1,3 +1,4 @@
+-- `groups_of` divides by a product that is not 0.
 use native.Mathlib.Omega.{arith}
 use borrow.Author.Needs.{needs}
 use Rattle.coding.proofs.HalfLaws.{group-size}

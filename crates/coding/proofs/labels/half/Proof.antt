@@ -1,3 +1,4 @@
+-- `half` puts one, two or three coded bits together.
 use mathlib.Core.Path.{_≡_}
 use native.Mathlib.Omega.{arith}
 use borrow.Author.Needs.{needs}

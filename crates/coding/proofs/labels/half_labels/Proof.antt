@@ -1,3 +1,4 @@
+-- `half_labels`: the line of inputs, its coded bits and their half labels, one from the other.
 use native.Mathlib.Omega.{arith}
 use Rattle.laws.proofs.Filling.{fill-small}
 use Rattle.chain.proofs.InputLaws.{input-bit, line-bit}

@@ -1,3 +1,4 @@
+-- `rotated_carriers` goes by the width.
 use native.Mathlib.Omega.{arith}
 use borrow.Author.Needs.{needs}
 use Rattle.chain.specs.Interleaver.{rotation}

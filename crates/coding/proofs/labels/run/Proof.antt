@@ -1,3 +1,4 @@
+-- `run` stores one half label a turn.
 use Prim.Native.Nat.{_+_, _-_, _≤_}
 use native.Mathlib.Omega.{arith}
 use borrow.Author.Needs.{needs}

@@ -1,3 +1,4 @@
+-- `symbol_halves` writes the half labels stream by stream.
 use mathlib.Core.Path.{_≡_}
 use Prim.Native.Nat.{_-_, _≤_}
 use native.Mathlib.Omega.{arith}

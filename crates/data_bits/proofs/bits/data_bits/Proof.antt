@@ -1,3 +1,4 @@
+-- `data_bits`: the bytes between the two marks are the payload's, and all else stays zero.
 use native.Mathlib.Omega.{arith}
 use denote.Ref.{now}
 use borrow.Author.Needs.{needs}

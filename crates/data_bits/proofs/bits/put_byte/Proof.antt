@@ -1,3 +1,4 @@
+-- `put_byte` stores eight bits, each the payload's.
 use native.Mathlib.Omega.{arith}
 use lib.ListN.{length-set}
 use borrow.Author.Needs.{needs}

@@ -1,3 +1,4 @@
+-- `put_bytes` puts one byte a turn.
 use Prim.Native.Nat.{_+_, _-_, _*_, _≤_}
 use native.Mathlib.Omega.{arith}
 use denote.Ref.{now}

@@ -1,3 +1,4 @@
+-- `floats_of` multiplies two small numbers.
 use Prim.Native.Nat.{_*_, _≤_}
 use mathlib.Core.Path.{_≡_}
 use native.Mathlib.Omega.{arith}

@@ -1,3 +1,4 @@
+-- `labels_of` asks for half labels by the numbers of accepted settings.
 use denote.Ref.{now}
 use borrow.Author.Needs.{needs}
 use Rattle.frame.proofs.FrameLaws.{labels-asked, labels-held}

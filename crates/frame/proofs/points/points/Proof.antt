@@ -1,3 +1,4 @@
+-- `points` goes by the tests of its refusals; where none applies, the symbol is written.
 use mathlib.Core.Path.{_≡_, _∙_, refl, sym, ap, subst}
 use mathlib.Core.Bool.{Bool, true, false}
 use Prim.Native.Nat.{ℕ}

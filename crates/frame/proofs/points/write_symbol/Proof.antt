@@ -1,3 +1,4 @@
+-- `write_symbol`: the half labels, and the points from them.
 use denote.Ref.{now}
 use borrow.Author.Needs.{needs}
 use Rattle.frame.proofs.PointsLaws.{symbol-asked, symbol-filled}

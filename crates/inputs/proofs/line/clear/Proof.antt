@@ -1,3 +1,4 @@
+-- `clear` stores one zero a turn.
 use mathlib.Core.Path.{refl}
 use Prim.Native.Nat.{_-_, _≤_}
 use native.Mathlib.Omega.{arith}

@@ -1,3 +1,4 @@
+-- `coder_inputs`: zeros before the frame's first bit, and the scrambled inputs behind them.
 use native.Mathlib.Omega.{arith}
 use denote.Ref.{now}
 use borrow.Author.Needs.{needs}

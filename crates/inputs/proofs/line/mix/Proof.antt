@@ -1,3 +1,4 @@
+-- `mix`: the three parts, up to the tail, the tail and behind it, are the inputs.
 use native.Mathlib.Omega.{arith}
 use denote.Ref.{now}
 use Rattle.inputs.proofs.Mixing.{mixed-parts}

@@ -1,3 +1,4 @@
+-- `is_in_line` is the definition's test.
 use mathlib.Core.Path.{refl}
 use Rattle.lines.proofs.lines.is_in_line.Statement.{statement}
 use Rattle.lines.proofs.lines.is_in_line.Tie as tie

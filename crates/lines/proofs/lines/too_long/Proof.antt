@@ -1,3 +1,4 @@
+-- `too_long` is the definition's test.
 use mathlib.Core.Path.{refl}
 use Rattle.lines.proofs.lines.too_long.Statement.{statement}
 use Rattle.lines.proofs.lines.too_long.Tie as tie

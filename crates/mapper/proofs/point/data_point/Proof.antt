@@ -1,3 +1,4 @@
+-- `data_point` looks one half label up, or two.
 use Prim.Native.Nat.{_*_}
 use native.Mathlib.Nat.{add-assoc}
 use native.Mathlib.Omega.{arith}

@@ -1,3 +1,4 @@
+-- `level_table` is the table of levels, by the number of bits.
 use mathlib.Core.Path.{refl}
 use lib.Ieee.{neg, ofBits, ofInt}
 use Rattle.mapper.specs.Levels.{levelOf}

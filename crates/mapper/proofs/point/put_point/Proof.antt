@@ -1,3 +1,4 @@
+-- `put_point` stores two floats.
 use mathlib.Core.Path.{refl}
 use native.Mathlib.Omega.{arith}
 use lib.ListN.{length-set}

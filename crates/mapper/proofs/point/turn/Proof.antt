@@ -1,3 +1,4 @@
+-- `turn` is the quarter turn of every small point of whole numbers.
 use lib.Ieee.{neg, ofBits, ofInt}
 use Rattle.mapper.proofs.PointLaws.{turns}
 use Rattle.mapper.proofs.point.turn.Statement.{statement}

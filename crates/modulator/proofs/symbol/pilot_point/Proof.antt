@@ -1,3 +1,4 @@
+-- `pilot_point` goes by the turn.
 use lib.IntN.{pos}
 use lib.Ieee.{ofBits, ofInt}
 use borrow.Author.Needs.{needs}

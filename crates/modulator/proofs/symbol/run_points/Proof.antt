@@ -1,3 +1,4 @@
+-- `run_points` puts one carrier's point a turn.
 use Prim.Native.Nat.{_-_, _*_, _≤_}
 use native.Mathlib.Omega.{arith}
 use lib.Ieee.{nan}

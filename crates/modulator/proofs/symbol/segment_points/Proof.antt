@@ -1,3 +1,4 @@
+-- `segment_points` writes a run, and its pilot where it has one.
 use mathlib.Core.Path.{subst, sym}
 use native.Mathlib.Omega.{arith}
 use lib.ListN.{length}

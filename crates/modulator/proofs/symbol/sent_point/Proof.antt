@@ -1,3 +1,4 @@
+-- `sent_point` goes by the turn.
 use denote.Ref.{now}
 use borrow.Author.Needs.{needs}
 use Rattle.mapper.specs.Levels.{carrierLevels}

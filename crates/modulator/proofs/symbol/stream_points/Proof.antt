@@ -1,3 +1,4 @@
+-- `stream_points` writes the stream run by run.
 use mathlib.Core.Path.{_≡_, _∙_, refl}
 use Prim.Native.Nat.{_-_, _≤_}
 use native.Mathlib.Omega.{arith}

@@ -1,3 +1,4 @@
+-- `one_to_five` is the definition's test.
 use mathlib.Core.Path.{refl}
 use Rattle.parsing.proofs.numbers.one_to_five.Statement.{statement}
 use Rattle.parsing.proofs.numbers.one_to_five.Tie as tie

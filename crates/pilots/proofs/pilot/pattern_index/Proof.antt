@@ -1,3 +1,4 @@
+-- `pattern_index` goes by the width.
 use native.Mathlib.Omega.{arith}
 use Rattle.pilots.proofs.PilotLaws.{value-at, value-small}
 use Rattle.pilots.proofs.pilot.pattern_index.Statement.{statement}

@@ -1,3 +1,4 @@
+-- `pattern_minus` takes a bit of the row that the tables have for the stream.
 use Prim.Native.Nat.{_+_, _<_}
 use native.Mathlib.Omega.{arith}
 use borrow.Author.Needs.{needs}

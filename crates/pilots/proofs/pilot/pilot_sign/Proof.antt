@@ -1,3 +1,4 @@
+-- `pilot_sign`: two minus signs are a plus.
 use mathlib.Core.Path.{_≡_, _∙_, ap}
 use Prim.Native.Nat.{_+_, _%_}
 use native.Mathlib.Omega.{arith}

@@ -1,3 +1,4 @@
+-- `polarity_bit` jumps as far as the format says.
 use borrow.Author.Needs.{needs}
 use lib.Dec.{lit<}
 use Rattle.chain.proofs.ScramblerLaws.{state-small}

@@ -1,3 +1,4 @@
+-- `rows_before` goes by the number of streams.
 use mathlib.Core.Path.{_≡_}
 use native.Mathlib.Omega.{arith}
 use Rattle.pilots.proofs.PilotLaws.{streams-range}

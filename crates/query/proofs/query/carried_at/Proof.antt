@@ -1,3 +1,4 @@
+-- `carried_at` goes by the use of the subcarrier.
 use mathlib.Core.Path.{_≡_, _∙_, sym, ap}
 use mir.Facts.{toZ-ofZ}
 use denote.Ref.{now}

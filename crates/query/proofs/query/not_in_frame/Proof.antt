@@ -1,3 +1,4 @@
+-- `not_in_frame` is the definition's test.
 use mathlib.Core.Path.{_∙_, ap}
 use mir.Facts.{toZ-ofZ}
 use Rattle.subcarriers.specs.Subcarriers.{outside}

@@ -1,3 +1,4 @@
+-- `pilot_at` asks for the sign by the numbers of accepted settings.
 use borrow.Author.Needs.{needs}
 use Rattle.query.proofs.QueryLaws.{pilot-asked, pilot-is}
 use Rattle.query.proofs.query.pilot_at.Statement.{statement}

@@ -1,3 +1,4 @@
+-- `point_at`: the point of one carrier, from the half labels of its symbol.
 use native.Mathlib.Omega.{arith}
 use denote.Ref.{now}
 use borrow.Author.Needs.{needs}

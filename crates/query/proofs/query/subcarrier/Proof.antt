@@ -1,3 +1,4 @@
+-- `subcarrier` goes by the tests of its refusals; where none applies, it answers what is carried.
 use mathlib.Core.Path.{_≡_, _∙_, refl, sym, ap, subst}
 use mathlib.Core.Bool.{true, false}
 use mir.Facts.{toZ-ofZ}

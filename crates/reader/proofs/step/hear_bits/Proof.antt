@@ -1,3 +1,4 @@
+-- `hear_bits` goes by whether inputs exist that give the coded bits.
 use mathlib.Core.Path.{_∙_, refl, sym}
 use native.Mathlib.Omega.{arith}
 use denote.Ref.{now}

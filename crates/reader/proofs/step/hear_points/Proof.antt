@@ -1,3 +1,4 @@
+-- `hear_points` goes by whether every point is given.
 use Rattle.reader.proofs.HearLaws.{place-few, stream-few}
 use mathlib.Core.Path.{_∙_, refl}
 use native.Mathlib.Omega.{arith}

@@ -1,3 +1,4 @@
+-- `step` goes by the tests of 12 and 8; where none applies, the points are heard.
 use Rattle.reader.proofs.HearLaws.{room-by, room-found}
 use Rattle.reader_state.specs.State.{openRaw, closedOf}
 use Rattle.settings.specs.declared.settings.Checked.the-variants.{Accepted}

@@ -1,3 +1,4 @@
+-- `place` goes by the tests of 12 and 8; where none applies, by the search.
 use mir.Syntax.{w32}
 use mir.Val.{toZ, ofZ}
 use mathlib.Core.Path.{_≡_, _∙_, refl, sym, ap}

@@ -1,3 +1,4 @@
+-- `bad_part` compares with the power that the payload bits before the symbol leave.
 use native.Mathlib.Omega.{arith}
 use Rattle.reader_state.proofs.StateLaws.{bits-near, part-by}
 use borrow.Author.Needs.{needs}

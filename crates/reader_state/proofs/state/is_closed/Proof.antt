@@ -1,3 +1,4 @@
+-- `is_closed` makes the definition's tests one after the other.
 use mathlib.Core.Path.{_≡_, subst}
 use mathlib.Core.Bool.{true, false, _||_}
 use Prim.Native.Nat.{ℕ}

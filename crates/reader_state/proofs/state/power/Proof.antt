@@ -1,3 +1,4 @@
+-- `power` looks a power of two up.
 use Rattle.reader_state.proofs.StateLaws.{powers}
 use borrow.Author.Needs.{needs}
 use Rattle.reader_state.proofs.state.power.Statement.{statement}

@@ -1,3 +1,4 @@
+-- `start` goes by whether the settings are accepted.
 use mathlib.Core.Path.{_≡_, _∙_, sym, ap, subst}
 use Rattle.settings.specs.declared.settings.Checked.{Checked}
 use Rattle.settings.specs.Settings.{checkOf, IsRefused}

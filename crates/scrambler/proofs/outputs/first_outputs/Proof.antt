@@ -1,3 +1,4 @@
+-- `first_outputs` stores one output a turn and steps on.
 use mathlib.Core.Path.{_≡_, _∙_, sym, ap}
 use Prim.Native.Nat.{_-_, _<_, _≤_}
 use native.Mathlib.Omega.{arith}

@@ -1,3 +1,4 @@
+-- `repeat_outputs` copies one output a turn, from a period before it.
 use Prim.Native.Nat.{_-_, _%_, _≤_}
 use native.Mathlib.Omega.{arith}
 use lib.ListN.{getD}

@@ -1,3 +1,4 @@
+-- `scrambler_outputs`: the first period by steps, the rest by copying.
 use native.Mathlib.Omega.{arith}
 use borrow.Author.Needs.{needs}
 use Rattle.scrambler.proofs.Repeats.{outputs-repeat}

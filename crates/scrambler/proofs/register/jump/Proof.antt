@@ -1,3 +1,4 @@
+-- `jump` makes the jumps of the number's bits, seven at the most.
 use borrow.Author.Needs.{needs}
 use Rattle.chain.proofs.ScramblerLaws.{state-small}
 use Rattle.scrambler.proofs.Jumps.{jumps}

@@ -1,3 +1,4 @@
+-- `jump_1` goes by bit 0 of the number.
 use native.Mathlib.Omega.{arith}
 use borrow.Author.Needs.{needs}
 use Rattle.scrambler.proofs.Jumps.{jump-none, jump-1-is}

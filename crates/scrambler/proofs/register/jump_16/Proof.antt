@@ -1,3 +1,4 @@
+-- `jump_16` goes by bit 4 of the number: 16 steps are the xor of 4, 2 and 1.
 use native.Mathlib.Omega.{arith}
 use borrow.Author.Needs.{needs}
 use Rattle.scrambler.proofs.Jumps.{jump-none, jump-16-is}

@@ -1,3 +1,4 @@
+-- `jump_2` goes by bit 1 of the number.
 use native.Mathlib.Omega.{arith}
 use borrow.Author.Needs.{needs}
 use Rattle.scrambler.proofs.Jumps.{jump-none, jump-once}

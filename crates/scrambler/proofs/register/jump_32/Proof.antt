@@ -1,3 +1,4 @@
+-- `jump_32` goes by bit 5 of the number: 32 steps are the xor of 2 and 1.
 use native.Mathlib.Omega.{arith}
 use borrow.Author.Needs.{needs}
 use Rattle.scrambler.proofs.Jumps.{jump-none, jump-32-is}

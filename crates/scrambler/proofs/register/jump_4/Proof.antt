@@ -1,3 +1,4 @@
+-- `jump_4` goes by bit 2 of the number.
 use native.Mathlib.Omega.{arith}
 use borrow.Author.Needs.{needs}
 use Rattle.scrambler.proofs.Jumps.{jump-none, jump-once}

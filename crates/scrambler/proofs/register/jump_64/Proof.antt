@@ -1,3 +1,4 @@
+-- `jump_64` goes by bit 6 of the number: 64 steps are the xor of 4 and 2.
 use native.Mathlib.Omega.{arith}
 use borrow.Author.Needs.{needs}
 use Rattle.scrambler.proofs.Jumps.{jump-none, jump-64-is}

@@ -1,3 +1,4 @@
+-- `jump_8` goes by bit 3 of the number: 8 steps are the xor of 4 and 1.
 use native.Mathlib.Omega.{arith}
 use borrow.Author.Needs.{needs}
 use Rattle.scrambler.proofs.Jumps.{jump-none, jump-8-is}

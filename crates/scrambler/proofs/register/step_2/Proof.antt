@@ -1,3 +1,4 @@
+-- `step_2` is two steps, as computed for every state.
 use borrow.Author.Needs.{needs}
 use Rattle.scrambler.proofs.Jumps.{step-2-is}
 use Rattle.scrambler.proofs.register.step_2.Statement.{statement}

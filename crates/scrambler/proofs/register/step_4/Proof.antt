@@ -1,3 +1,4 @@
+-- `step_4` is four steps, as computed for every state.
 use borrow.Author.Needs.{needs}
 use Rattle.scrambler.proofs.Jumps.{step-4-is}
 use Rattle.scrambler.proofs.register.step_4.Statement.{statement}

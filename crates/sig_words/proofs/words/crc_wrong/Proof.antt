@@ -1,3 +1,4 @@
+-- `crc_wrong` is the definition's test.
 use Rattle.sig_words.proofs.WordLaws.{crc-with}
 use borrow.Author.Needs.{needs}
 use Rattle.sig_words.proofs.words.crc_wrong.Statement.{statement}

@@ -1,3 +1,4 @@
+-- `form_wrong` is the definition's test.
 use mathlib.Core.Path.{refl}
 use Rattle.sig_words.specs.Words.{wordFormWrong}
 use Rattle.sig_words.proofs.words.form_wrong.Statement.{statement}

@@ -1,3 +1,4 @@
+-- `put_six` stores six bytes, each the low byte of what is left.
 use mathlib.Core.Path.{_≡_, _∙_}
 use mathlib.Core.List.{List, [], _∷_, _++_}
 use Prim.Native.Nat.{ℕ}

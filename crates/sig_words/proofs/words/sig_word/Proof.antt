@@ -1,3 +1,4 @@
+-- `sig_word` adds the CRC's field to the head.
 use native.Mathlib.Omega.{arith}
 use Rattle.sig_words.proofs.WordLaws.{word-with}
 use borrow.Author.Needs.{needs}

@@ -1,3 +1,4 @@
+-- `read` goes by the tests of its refusals, on the number that the six bytes are.
 use native.Mathlib.Omega.{arith}
 use mathlib.Core.Path.{_∙_, sym, refl}
 use mathlib.Core.Bool.{true, false}

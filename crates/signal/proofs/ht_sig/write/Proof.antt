@@ -1,3 +1,4 @@
+-- `write` goes by the tests of its refusals; where none applies, six bytes are written.
 use mathlib.Core.Path.{_∙_, sym, ap, subst}
 use denote.Ref.{now}
 use Rattle.settings.specs.Settings.{checkOf, IsRefused}

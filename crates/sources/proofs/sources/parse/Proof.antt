@@ -1,3 +1,4 @@
+-- `parse` makes one stream bit a coded bit a turn.
 use mathlib.Core.Path.{_∙_, ap}
 use Prim.Native.Nat.{ℕ, _-_, _≤_}
 use native.Mathlib.Omega.{arith}

@@ -1,3 +1,4 @@
+-- `parsed` goes by encoders and bits of an axis, so that each divisor is a numeral.
 use mathlib.Core.Path.{ap}
 use Prim.Native.Nat.{ℕ, _*_, _/_}
 use native.Mathlib.Nat.{div-one}

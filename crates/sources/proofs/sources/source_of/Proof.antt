@@ -1,3 +1,4 @@
+-- `source_of` goes by the width.
 use Rattle.chain.proofs.Counts.{width-other}
 use Rattle.sources.proofs.sources.source_of.Statement.{statement}
 use Rattle.sources.proofs.sources.source_of.Tie as tie

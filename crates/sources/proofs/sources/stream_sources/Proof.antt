@@ -1,3 +1,4 @@
+-- `stream_sources` stores one source a turn.
 use Prim.Native.Nat.{_-_, _≤_}
 use native.Mathlib.Omega.{arith}
 use borrow.Author.Needs.{needs}

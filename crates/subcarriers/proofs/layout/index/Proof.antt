@@ -1,3 +1,4 @@
+-- `index` is not below 0, so that the cast keeps it.
 use mathlib.Core.Path.{_≡_, sym, ap, _∙_, subst}
 use Prim.Native.Nat.{_<_}
 use native.Mathlib.Omega.{arith}

@@ -1,3 +1,4 @@
+-- `is_outside` goes by the width.
 use mathlib.Core.Bool.{true, false}
 use mir.Facts.{toZ-ofZ}
 use Rattle.subcarriers.proofs.SubcarrierLaws.{outside-by}

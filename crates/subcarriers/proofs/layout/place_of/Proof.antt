@@ -1,3 +1,4 @@
+-- `place_of` goes by the width.
 use Rattle.chain.proofs.Counts.{width-other}
 use borrow.Author.Needs.{needs}
 use Rattle.subcarriers.proofs.layout.place_of.Statement.{statement}

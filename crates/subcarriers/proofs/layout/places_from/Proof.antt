@@ -1,3 +1,4 @@
+-- `places_from` is a difference of two small numbers.
 use borrow.Author.Needs.{needs}
 use Rattle.subcarriers.proofs.NumberLaws.{difference-fits, difference-is}
 use Rattle.subcarriers.proofs.layout.places_from.Statement.{statement}

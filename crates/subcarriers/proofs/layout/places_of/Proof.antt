@@ -1,3 +1,4 @@
+-- `places_of` goes by the width.
 use Rattle.subcarriers.proofs.layout.places_of.Statement.{statement}
 use Rattle.subcarriers.proofs.layout.places_of.Tie as tie
 

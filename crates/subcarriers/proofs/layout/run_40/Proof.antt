@@ -1,3 +1,4 @@
+-- `run_40` reads the tables of 40 MHz, which are the definition's.
 use borrow.Author.Needs.{needs}
 use Rattle.subcarriers.specs.Runs.{runOf}
 use Rattle.subcarriers.proofs.layout.run_40.Statement.{statement}

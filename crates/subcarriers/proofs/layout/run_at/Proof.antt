@@ -1,3 +1,4 @@
+-- `run_at` looks for the first run that begins behind the place; the one before it holds it.
 use mathlib.Core.Path.{_≡_, ap, _∙_}
 use Prim.Native.Nat.{ℕ, _+_, _-_, _≤_}
 use native.Mathlib.Omega.{arith}

@@ -1,3 +1,4 @@
+-- `run_of` goes by the width.
 use Rattle.chain.proofs.Counts.{width-other}
 use Rattle.subcarriers.proofs.layout.run_of.Statement.{statement}
 use Rattle.subcarriers.proofs.layout.run_of.Tie as tie

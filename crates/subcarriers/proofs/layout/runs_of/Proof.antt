@@ -1,3 +1,4 @@
+-- `runs_of` goes by the width.
 use Rattle.subcarriers.proofs.layout.runs_of.Statement.{statement}
 use Rattle.subcarriers.proofs.layout.runs_of.Tie as tie
 

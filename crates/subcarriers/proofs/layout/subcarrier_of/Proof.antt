@@ -1,3 +1,4 @@
+-- `subcarrier_of` goes by width and half of the channel.
 use mathlib.Core.Path.{_≡_, _∙_, subst}
 use Prim.Native.Nat.{ℕ, _<_}
 use borrow.Author.Needs.{needs}

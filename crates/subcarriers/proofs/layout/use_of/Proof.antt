@@ -1,3 +1,4 @@
+-- `use_of` goes by whether the subcarrier has a place.
 use mathlib.Core.Path.{_≡_, sym, ap, _∙_}
 use mir.Facts.{toZ-ofZ}
 use borrow.Author.Needs.{needs}

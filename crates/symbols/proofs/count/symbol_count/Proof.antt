@@ -1,3 +1,4 @@
+-- `symbol_count` goes by whether the settings are accepted.
 use mathlib.Core.Path.{_∙_, sym, ap, subst}
 use Rattle.settings.specs.Settings.{IsRefused}
 use Rattle.symbols.specs.Symbols.{countOf}

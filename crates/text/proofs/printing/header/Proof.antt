@@ -1,3 +1,4 @@
+-- `header` is the definition's text.
 use mathlib.Core.Path.{refl}
 use Rattle.text.proofs.printing.header.Statement.{statement}
 use Rattle.text.proofs.printing.header.Tie as tie

@@ -1,3 +1,4 @@
+-- `too_long_text` is the definition's text.
 use mathlib.Core.Path.{refl}
 use Rattle.text.proofs.printing.too_long_text.Statement.{statement}
 use Rattle.text.proofs.printing.too_long_text.Tie as tie

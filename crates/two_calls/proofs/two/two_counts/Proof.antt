@@ -1,3 +1,4 @@
+-- `two_counts`: demand 3 of the answers that the two calls give.
 use mathlib.Core.Path.{_∙_, sym}
 use Rattle.demands.proofs.Demand3.{same-count}
 use borrow.Author.Needs.{needs}

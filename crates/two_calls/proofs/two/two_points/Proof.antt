@@ -1,3 +1,4 @@
+-- `two_points`: demand 3 of the answers and slices that the two calls give.
 use denote.Ref.{now}
 use borrow.Author.Needs.{needs}
 use mathlib.Core.List.{List}

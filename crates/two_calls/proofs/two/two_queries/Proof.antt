@@ -1,3 +1,4 @@
+-- `two_queries`: demand 3 of the answers that the two calls give.
 use denote.Ref.{now}
 use mathlib.Core.Path.{_∙_, ap}
 use mir.Facts.{toZ-ofZ}

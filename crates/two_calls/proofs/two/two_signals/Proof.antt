@@ -1,3 +1,4 @@
+-- `two_signals`: demand 3 of the answers and slices that the two calls give.
 use denote.Ref.{now}
 use Rattle.demands.proofs.Demand3.{of-signals}
 use borrow.Author.Needs.{needs}
