@@ -3,19 +3,18 @@
 
 mod common;
 
-use common::{any_settings, bits, carried, numbered, pilot_places, question_range, Draw, GOOD};
+use common::{
+    any_settings, bits, carried, numbered, pilot_places, question_range, reading, Draw, GOOD,
+};
 use controller::{
     carrier, carrier_into, floats_per_symbol, points, sig_write, symbol_count, RawSettings,
-    MAX_FLOATS,
 };
 use std::collections::HashSet;
 use std::ops::Range;
 
 /// A symbol's levels by bits.
 fn symbol(s: RawSettings, payload: &[u8], n: u32) -> Vec<u32> {
-    let mut out = [f32::NAN; MAX_FLOATS];
-    let count = points(s, payload, n, &mut out).unwrap();
-    bits(&out[..count])
+    bits(&reading::symbol(s, payload, n as usize))
 }
 
 /// The question's answers for every stream and subcarrier of a symbol, one after the other.

@@ -2,6 +2,7 @@
 
 mod common;
 
+use common::reading::GUARD;
 use common::{bits, carried, numbered, question_range, second_settings, Draw, GOOD};
 use controller::{
     carrier, carrier_into, floats_per_symbol, points, symbol_count, RawSettings, MAX_FLOATS,
@@ -31,9 +32,6 @@ const FILLS: [Fill; 5] = [
     |_| 0x8000_0000,
     |place| (0.37 * place as f32 - 11.0).to_bits(),
 ];
-
-/// Floats on both sides of every lent slice; they have to stay too.
-const GUARD: usize = 16;
 
 /// Memory with `room` floats to lend between the guards.
 fn memory(room: usize, fill: Fill) -> Vec<f32> {
