@@ -107,12 +107,12 @@ questionAnswered (QueryRefused r) = numberOf r ∷ []
 abbrev pub questionAt : RawSettings → (payload : List ℕ) (symbol stream : ℕ) (z : ℤ) → List ℕ
 questionAt a payload symbol stream z = questionAnswered (queryOf (checkOf a) payload symbol stream z)
 
-abbrev pub counted-as : Count → List ℕ
-counted-as (Symbols n) = 0 ∷ (n ∷ [])
-counted-as (CountRefused r) = numberOf r ∷ []
+abbrev pub countAnswered : Count → List ℕ
+countAnswered (Symbols n) = 0 ∷ (n ∷ [])
+countAnswered (CountRefused r) = numberOf r ∷ []
 
 abbrev pub countAt : RawSettings → List ℕ
-countAt a = counted-as (countOf (checkOf a))
+countAt a = countAnswered (countOf (checkOf a))
 
 abbrev pub signalWrittenAt : RawSettings → (lent : List ℕ) → List ℕ
 signalWrittenAt a lent = writtenNumber (writtenOf (checkOf a) (length lent)) ∷ writtenInto (checkOf a) lent

@@ -251,16 +251,14 @@ fn from_inputs(n: u64, heard: &Heard, inputs: &[u8]) -> Vec<Row> {
     ]
 }
 
-/// One data carrier's level turned over, at some carriers: no inputs give these coded bits, or others do.
+/// One data carrier's level turned over, at three carriers: no inputs give these coded bits, or others do.
 fn wrong_codes(n: u64, heard: &Heard, random: &mut Random) -> Vec<Row> {
     let mut rows = Vec::new();
-    for carrier in random.some_below(3, 8) {
+    // No pilot stands at the first seven places.
+    for place in random.some_below(3, 7) {
         let mut other = heard.clone();
-        // Among the first places, of which none is a pilot's.
-        let level = &mut other.floats[2 * carrier as usize];
-        if carrier < 7 {
-            *level = -*level;
-        }
+        let level = &mut other.floats[2 * place as usize];
+        *level = -*level;
         rows.extend(from_labels(n, &other));
     }
     rows

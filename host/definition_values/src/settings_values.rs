@@ -70,7 +70,7 @@ fn count(s: &Settings) -> Vec<u64> {
     }
 }
 
-/// A record's type cannot be seen in an argument, so the settings stand there with it.
+/// The settings as an argument.
 fn raw(s: &Settings) -> String {
     format!("({})", settings(s))
 }

@@ -7,7 +7,7 @@ use crate::write::write_crate;
 use std::collections::BTreeSet;
 use std::fs::{read_to_string, remove_dir_all};
 
-/// The numbers of the first list in a term: `.. (3 ∷ 17 ∷ [])`.
+/// The numbers of the last list in a term: `.. (3 ∷ 17 ∷ [])`.
 fn places(given: &str) -> Vec<usize> {
     let (_, list) = given.rsplit_once('(').expect("a list");
     let numbers = list.split(" ∷ ").filter(|entry| !entry.starts_with('['));

@@ -122,10 +122,10 @@ fn names_declared(text: &str) -> String {
 
 fn claim(theorem: &Theorem) -> String {
     let name = &theorem.name;
-    let mut text = format!("\nabbrev pub {name} : Claim\n{name} =\n    table (\n");
+    let mut text = format!("\nabbrev pub {name} : Claim\n{name} =\n    table (");
     for row in &theorem.rows {
         let expected = list(&row.expected);
-        text.push_str(&format!("    agree ({}) ({expected})\n    ∷ ", row.given));
+        text.push_str(&format!("agree ({}) ({expected})\n    ∷ ", row.given));
     }
     text + "[])\n"
 }
