@@ -38,23 +38,14 @@ pub fn module(mcs: u32, width: u32) -> Module {
         Theorem::new("points-answers", points_answers(&frame)),
     ];
     for n in 0..SYMBOLS {
-        theorems.push(Theorem::new(
-            format!("coded-{n}"),
-            coded(&frame, n, &mut random),
-        ));
-        theorems.push(Theorem::new(
-            format!("labels-{n}"),
-            labels(&frame, n, &mut random),
-        ));
-        theorems.push(Theorem::new(
-            format!("questions-{n}"),
-            questions(&frame, n, &mut random),
-        ));
+        let mut add = |name, rows| theorems.push(Theorem::new(format!("{name}-{n}"), rows));
+        add("coded", coded(&frame, n, &mut random));
+        add("labels", labels(&frame, n, &mut random));
+        add("questions", questions(&frame, n, &mut random));
         for i in 0..streams(mcs) {
-            theorems.push(Theorem::new(
-                format!("floats-{n}-{i}"),
-                vec![floats(&frame, n, i, &mut random)],
-            ));
+            let name = format!("floats-{n}-{i}");
+            let row = floats(&frame, n, i, &mut random);
+            theorems.push(Theorem::new(name, vec![row]));
         }
     }
     theorems.push(Theorem::new("refused-questions", refused_questions(&frame)));

@@ -199,7 +199,7 @@ use Rattle.reader_state.specs.declared.state.Reader.{Reader}
 use Rattle.reader_state.specs.State.{startOf, startNumber, historyOf}
 use Rattle.acceptance.specs.declared.accept.Stepped.{Stepped}
 use Rattle.acceptance.specs.Accepted.{bytesInto, intoBy, byFrame}
-use Rattle.reader.specs.Step.{heardInput, byCode, stepOf, stepInto, stepNumber, stepSeed, stepStream, stepSubcarrier}
+use Rattle.reader.specs.Step.{heardInput, byCode, stepOf, stepNumber, stepSeed, stepStream, stepSubcarrier}
 use Rattle.reader_place.specs.declared.place.PlaceAnswer.{PlaceAnswer}
 use Rattle.reader_place.specs.declared.place.PlaceAnswer.the-variants.{Passed, Found, Refused as PlaceRefused}
 use Rattle.reader_place.specs.Place.{placeOf}
@@ -225,12 +225,9 @@ abbrev pub steppedNumbers : Stepped → List ℕ
 steppedNumbers r =
     stepNumber (r .answer) ∷ (stepSeed (r .answer) ∷ (stepStream (r .answer) ∷ (counted (stepSubcarrier (r .answer)) ∷ stateNumbers (r .state))))
 
--- the whole step, and the lent payload afterwards
+-- the whole step
 abbrev pub stepAt : Reader → (points : List ℕ) (bytes : ℕ) → List ℕ
 stepAt st points bytes = steppedNumbers (stepOf st (floatsIn points) bytes)
-
-abbrev pub bytesAt : Reader → (points lent : List ℕ) → List ℕ
-bytesAt st points lent = stepInto st (floatsIn points) lent
 
 -- the place of the first point that is none
 abbrev pub placeNumbers : PlaceAnswer → List ℕ
