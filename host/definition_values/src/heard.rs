@@ -1,6 +1,7 @@
 //! A symbol before the reader, right or of other inputs: what the second program makes of it.
 
 use crate::frame::Frame;
+use crate::terms::open;
 use second::carriers::{pilot_subcarriers, used_subcarriers};
 use second::chain::carrier_labels;
 use second::code_search::{search, Found};
@@ -12,7 +13,6 @@ use second::points::{floats_per_symbol, points};
 use second::puncture::puncture;
 use second::rates::{bits_per_carrier, encoders, rate, streams};
 use second::reader::{reader_start, reader_step, OpenSettings, State};
-use second::settings::Settings;
 
 /// The settings, the state that the earlier symbols leave, and the symbol's floats.
 #[derive(Clone)]
@@ -20,19 +20,6 @@ pub struct Heard {
     pub open: OpenSettings,
     pub state: State,
     pub floats: Vec<f32>,
-}
-
-pub fn open(s: &Settings) -> OpenSettings {
-    OpenSettings {
-        width: s.width,
-        mcs: s.mcs,
-        format: s.format,
-        length: s.length,
-        smoothing: s.smoothing,
-        not_sounding: s.not_sounding,
-        aggregation: s.aggregation,
-        short_guard: s.short_guard,
-    }
 }
 
 /// Symbol n of the frame, after the second program has read the symbols before it.

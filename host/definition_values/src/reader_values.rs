@@ -2,9 +2,9 @@
 //! damaged ones among them.
 
 use crate::frame::{frame, symbols, Frame, SYMBOLS};
-use crate::heard::{heard, open, Heard};
+use crate::heard::{heard, Heard};
 use crate::random::Random;
-use crate::terms::{counted, list, open_settings, settings, state};
+use crate::terms::{counted, list, open, open_settings, settings, state};
 use crate::theorem::{Crate, Module, Row, Theorem};
 use second::code_search::kept_bits;
 use second::rates::{data_bits_per_symbol, encoders, rate};

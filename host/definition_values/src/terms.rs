@@ -41,9 +41,9 @@ pub fn counted(z: i64) -> u64 {
     }
 }
 
-/// A record of settings, accepted or raw: both have these fields.
-pub fn settings(s: &Settings) -> String {
-    let open = OpenSettings {
+/// Settings without their seed.
+pub fn open(s: &Settings) -> OpenSettings {
+    OpenSettings {
         width: s.width,
         mcs: s.mcs,
         format: s.format,
@@ -52,8 +52,12 @@ pub fn settings(s: &Settings) -> String {
         not_sounding: s.not_sounding,
         aggregation: s.aggregation,
         short_guard: s.short_guard,
-    };
-    format!("record {{ seed = {}; {} }}", s.seed, open_fields(&open))
+    }
+}
+
+/// A record of settings, accepted or raw: both have these fields.
+pub fn settings(s: &Settings) -> String {
+    format!("record {{ seed = {}; {} }}", s.seed, open_fields(&open(s)))
 }
 
 pub fn open_settings(s: &OpenSettings) -> String {
