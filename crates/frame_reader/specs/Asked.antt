@@ -10,7 +10,7 @@ use Rattle.reader_runs.specs.Sent.{settingsFor}
 use Rattle.frame_steps.specs.declared.steps.FrameAnswer.{FrameAnswer}
 use Rattle.frame_steps.specs.WholeFrame.{memoryAt, symbolsAnswer, frameIntoBy}
 
--- the symbols' answer, and in the payload what the steps leave where all were accepted, else nothing
+-- the symbols' answer, and the payload as the steps leave it where all were accepted, else as it was
 pub record FrameLeft (reader : Reader) (points : List Float) (r : FrameAnswer) (payload₀ payload : List ℕ) : Type 0 where
   pub answered : r ≡ symbolsAnswer (reader .settings) points (length payload₀)
   pub left : payload ≡ frameIntoBy r (memoryAt (reader .settings) points (symbolsOf (settingsFor (reader .settings))) payload₀) payload₀
