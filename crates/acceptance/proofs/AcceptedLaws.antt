@@ -30,8 +30,8 @@ use Rattle.acceptance.specs.declared.accept.StepAnswer.{StepAnswer}
 use Rattle.acceptance.specs.declared.accept.StepAnswer.the-variants.{First, Next, Refused as StepRefused}
 use Rattle.acceptance.specs.declared.accept.Stepped.{Stepped}
 use Rattle.reader_state.specs.State.{firstBit, endedOf}
-use Rattle.acceptance.specs.Accepted.{answered, scramblerFor, plainOf, frameRight, bitsBefore, bitsAfter, knownOf, partLeft, bytesLeft, bytesInto, intoBy, movedWith, acceptedWith, byFrame}
-use Rattle.acceptance.specs.Asked.{bitsOf, InputsHeld, ScramblerAsked, framedIn, RightAsked, BytesAsked, HeardInputs}
+use Rattle.acceptance.specs.Accepted.{answered, scramblerFor, plainOf, frameRight, bitsBefore, bitsAfter, knownOf, partLeft, bytesLeft, bytesInto, stepIntoBy, movedWith, acceptedWith, byFrame}
+use Rattle.acceptance.specs.Asked.{bitNumbered, InputsHeld, ScramblerAsked, framedIn, RightAsked, PutBytesAsked, HeardInputs}
 use Rattle.reader_state.proofs.StateLaws.{first-near, symbol-few}
 
 module _ (s : Settings) (n part : ℕ) (P P′ : ℕ → ℕ) (same : (d : ℕ) → d < planFor s .dbps → P d ≡ P′ d) where
@@ -116,17 +116,17 @@ module _ (s : Settings) (p : Plan) (plan : p ≡ planFor s) where
       → Filled 0 (payloadBefore (s .length) (n * p .dbps) / 8)
       (λ k. byteOf (knownBit (s .length) (n * p .dbps) part (λ d. getD plain d 0)) (payloadBefore (s .length) (n * p .dbps) / 8 + k))
       (payloadBefore (s .length) (n * p .dbps + p .dbps) / 8 - payloadBefore (s .length) (n * p .dbps) / 8) payload₀ payload
-      → payload ≡ bytesLeft s n part (bitsOf plain) payload₀
+      → payload ≡ bytesLeft s n part (bitNumbered plain) payload₀
   bytes-by n part plain payload₀ payload room f =
       let from = bitsBefore s n / 8 in
       let to = bitsAfter s n / 8 in
       let on : from + (to - from) ≡ to = omega arith in
-      fill-into 0 from (λ k. byteOf (knownOf s n part (bitsOf plain)) (from + k)) (to - from) payload₀ payload (omega (arith, room)) (rw plan at f)
-      ∙ ap (λ (k : ℕ). take from payload₀ ++ (firsts (λ j. byteOf (knownOf s n part (bitsOf plain)) (from + j)) (to - from) ++ drop k payload₀)) on
+      fill-into 0 from (λ k. byteOf (knownOf s n part (bitNumbered plain)) (from + k)) (to - from) payload₀ payload (omega (arith, room)) (rw plan at f)
+      ∙ ap (λ (k : ℕ). take from payload₀ ++ (firsts (λ j. byteOf (knownOf s n part (bitNumbered plain)) (from + j)) (to - from) ++ drop k payload₀)) on
 
   pub left-by : (n part : ℕ) (plain : List ℕ) (r : ℕ)
       → r ≡ partOf (knownBit (s .length) (n * p .dbps) part (λ d. getD plain d 0)) (payloadBefore (s .length) (n * p .dbps + p .dbps))
-      → r ≡ partLeft s n part (bitsOf plain)
+      → r ≡ partLeft s n part (bitNumbered plain)
   left-by n part plain r e =
       e ∙ ap (λ (q : Plan). partOf (knownBit (s .length) (n * q .dbps) part (λ d. getD plain d 0)) (payloadBefore (s .length) (n * q .dbps + q .dbps))) plan
 
@@ -152,24 +152,24 @@ module _ (s : Settings) (p : Plan) (plan : p ≡ planFor s) where
       }
 
 -- an accepted symbol's bytes are written, whichever symbol it is
-into-accepted : (b : Bool) (k : ℕ) (written payload : List ℕ) → written ≡ intoBy (cond b (First k) Next) written payload
+into-accepted : (b : Bool) (k : ℕ) (written payload : List ℕ) → written ≡ stepIntoBy (cond b (First k) Next) written payload
 into-accepted true k written payload = refl
 into-accepted false k written payload = refl
 
 -- from the symbol's inputs X on: the scrambler k, and plain bits in a list
 module _ (s : Settings) (right : Right s) (st : Reader) (X : ℕ → ℕ) (histories plain : List ℕ) (k : ℕ) (scrambler-is : k ≡ scramblerFor st X)
     (filled : (d : ℕ) → d < planFor s .dbps → getD plain d 0 ≡ plainBit k X d) where
-  plain-is : (d : ℕ) → d < planFor s .dbps → bitsOf plain d ≡ plainOf st X d
+  plain-is : (d : ℕ) → d < planFor s .dbps → bitNumbered plain d ≡ plainOf st X d
   plain-is d l = filled d l ∙ ap (λ (j : ℕ). plainBit j X d) scrambler-is
 
   abbrev tested : Bool
-  tested = ltb 0 k && framed (s .length) (planFor s .encoders) (firstBit s (st .symbol)) (planFor s .dbps) X (bitsOf plain)
+  tested = ltb 0 k && framed (s .length) (planFor s .encoders) (firstBit s (st .symbol)) (planFor s .dbps) X (bitNumbered plain)
 
   tested-is : tested ≡ frameRight s st X
   unfolding frameRight
   tested-is =
       ap₂ (λ (j : ℕ) (b : Bool). ltb 0 j && b) scrambler-is
-      (framed-ext (s .length) (planFor s .encoders) (firstBit s (st .symbol)) (planFor s .dbps) X (bitsOf plain) X (plainOf st X) (λ d l. refl) plain-is)
+      (framed-ext (s .length) (planFor s .encoders) (firstBit s (st .symbol)) (planFor s .dbps) X (bitNumbered plain) X (plainOf st X) (λ d l. refl) plain-is)
 
   pub heard-refused : (after : Reader) (payload : List ℕ) → tested ≡ false → after ≡ endedOf st
       → HeardInputs s st X histories (record { answer = StepRefused Frame; state = after }) payload payload
@@ -178,21 +178,21 @@ module _ (s : Settings) (right : Right s) (st : Reader) (X : ℕ → ℕ) (histo
       record { stepped = ap (answered (StepRefused Frame)) f ∙ simp wrong; written = refl }
 
   pub heard-accepted : (answer : StepAnswer) (after : Reader) (part : ℕ) (payload₀ payload : List ℕ) → tested ≡ true
-      → answer ≡ acceptedWith st k → after ≡ movedWith s st histories k part → part ≡ partLeft s (st .symbol) (st .part) (bitsOf plain)
-      → payload ≡ bytesLeft s (st .symbol) (st .part) (bitsOf plain) payload₀
+      → answer ≡ acceptedWith st k → after ≡ movedWith s st histories k part → part ≡ partLeft s (st .symbol) (st .part) (bitNumbered plain)
+      → payload ≡ bytesLeft s (st .symbol) (st .part) (bitNumbered plain) payload₀
       → HeardInputs s st X histories (record { answer = answer; state = after }) payload₀ payload
   unfolding bytesInto
   heard-accepted answer after part payload₀ payload e f g h w =
       let good : frameRight s st X ≡ true = sym tested-is ∙ e in
       let left : part ≡ partLeft s (st .symbol) (st .part) (plainOf st X) =
-      h ∙ part-ext s (st .symbol) (st .part) (bitsOf plain) (plainOf st X) plain-is in
+      h ∙ part-ext s (st .symbol) (st .part) (bitNumbered plain) (plainOf st X) plain-is in
       record {
         stepped =
             ap₂ answered (f ∙ ap (acceptedWith st) scrambler-is) (g ∙ ap₂ (movedWith s st histories) scrambler-is left) ∙ simp good;
         written =
-            w ∙ bytes-ext s (st .symbol) (st .part) (bitsOf plain) (plainOf st X) plain-is payload₀
+            w ∙ bytes-ext s (st .symbol) (st .part) (bitNumbered plain) (plainOf st X) plain-is payload₀
             ∙ into-accepted (eqb (st .symbol) 0) k (bytesLeft s (st .symbol) (st .part) (plainOf st X) payload₀) payload₀
-            ∙ ap (λ (a : StepAnswer). intoBy a (bytesLeft s (st .symbol) (st .part) (plainOf st X) payload₀) payload₀) (sym f);
+            ∙ ap (λ (a : StepAnswer). stepIntoBy a (bytesLeft s (st .symbol) (st .part) (plainOf st X) payload₀) payload₀) (sym f);
       }
 
 -- the plain bits that were put, and that they are bits
@@ -229,7 +229,7 @@ module _ (s : Settings) (st : Reader) (inputs : List ℕ) (held : InputsHeld s s
   }
 
   pub bytes-asked : (payload plain : List ℕ) → s .length ≤ length payload → 2160 ≤ length plain
-      → ((d : ℕ) → d < planFor s .dbps → getD plain d 0 < 2) → BytesAsked payload s (st .symbol) (st .part) plain
+      → ((d : ℕ) → d < planFor s .dbps → getD plain d 0 < 2) → PutBytesAsked payload s (st .symbol) (st .part) plain
   bytes-asked payload plain whole room bits =
       let most = plan-fits s (held .right) .dbps-most in
       let few = symbol-few s (held .right) (st .symbol) (held .in-range .below-count) in

@@ -61,11 +61,11 @@ unfoldable pub bytesInto : Settings → Reader → (X : ℕ → ℕ) → List �
 bytesInto s st X payload = bytesLeft s (st .symbol) (st .part) (plainOf st X) payload
 
 -- a refusal writes nothing
-abbrev pub intoBy : StepAnswer → (written : List ℕ) → List ℕ → List ℕ
-intoBy (First seed) written payload = written
-intoBy Next written payload = written
-intoBy (BadPoint i z) written payload = payload
-intoBy (StepRefused r) written payload = payload
+abbrev pub stepIntoBy : StepAnswer → (written : List ℕ) → List ℕ → List ℕ
+stepIntoBy (First seed) written payload = written
+stepIntoBy Next written payload = written
+stepIntoBy (BadPoint i z) written payload = payload
+stepIntoBy (StepRefused r) written payload = payload
 
 -- the state after an accepted symbol that began at a scrambler's state; after the last symbol it is finished, its end marked
 abbrev pub movedWith : Settings → Reader → (histories : List ℕ) (scrambler part : ℕ) → Reader

@@ -16,7 +16,7 @@ ghost use Prim.Native.Nat.{_<_};
 ghost use lib.Dec.{ltb};
 ghost use lib.ListN.{getD};
 ghost use Rattle.acceptance.specs.Accepted.{scramblerFor, acceptedWith, movedWith, bytesLeft, partLeft};
-ghost use Rattle.acceptance.specs.Asked.{bitsOf, framedIn, ScramblerAsked, MovedAsked, RightAsked, BytesAsked, FrameAsked, HeardInputs};
+ghost use Rattle.acceptance.specs.Asked.{bitNumbered, framedIn, ScramblerAsked, MovedAsked, RightAsked, PutBytesAsked, HearInputsAsked, HeardInputs};
 
 // The first symbol with the seed, a later one, the first point that fails by its stream and subcarrier, or a refusal.
 pub enum StepAnswer {
@@ -90,9 +90,9 @@ fn is_right(s: Settings, symbol: u64, scrambler: u8, inputs: &[u8], plain: &[u8]
 
 // The bytes that the symbol completes, and the part of a byte that it leaves.
 fn put_bytes(payload: &mut [u8], s: Settings, symbol: u64, part: u8, plain: &[u8]) -> u8
-    requires { ⌜ BytesAsked (now payload) s symbol part (now plain) ⌝ }
-    ensures { λ _. ⌜ now (payload .exit) ≡ bytesLeft s symbol part (bitsOf (now (plain .entry))) (now (payload .entry)) ⌝ }
-    ensures { λ r. ⌜ r ≡ partLeft s symbol part (bitsOf (now (plain .entry))) ⌝ }
+    requires { ⌜ PutBytesAsked (now payload) s symbol part (now plain) ⌝ }
+    ensures { λ _. ⌜ now (payload .exit) ≡ bytesLeft s symbol part (bitNumbered (now (plain .entry))) (now (payload .entry)) ⌝ }
+    ensures { λ r. ⌜ r ≡ partLeft s symbol part (bitNumbered (now (plain .entry))) ⌝ }
 {
     let plan = plan_of(s);
     put_payload(
@@ -113,8 +113,8 @@ pub fn hear_inputs(
     histories: [u8; 2],
     payload: &mut [u8],
 ) -> Stepped
-    requires { ⌜ FrameAsked s reader (now inputs) (now payload) ⌝ }
-    ensures { λ r. ⌜ HeardInputs s reader (bitsOf (now (inputs .entry))) histories r (now (payload .entry)) (now (payload .exit)) ⌝ }
+    requires { ⌜ HearInputsAsked s reader (now inputs) (now payload) ⌝ }
+    ensures { λ r. ⌜ HeardInputs s reader (bitNumbered (now (inputs .entry))) histories r (now (payload .entry)) (now (payload .exit)) ⌝ }
 {
     let plan = plan_of(s);
     let scrambler = scrambler_for(reader, inputs);

@@ -14,7 +14,7 @@ use Rattle.laws.specs.Filled.{Filled}
 use Rattle.laws.proofs.Filling.{fill-at, fill-as}
 use Rattle.laws.proofs.Search.{lt-or-le, parts}
 use Rattle.data_bits.proofs.Bytes.{all-zero}
-use Rattle.assembler.specs.Assembled.{packed, byteOf, partOf, knownBit, payloadBefore, PayloadAsked}
+use Rattle.assembler.specs.Assembled.{bitsNumber, byteOf, partOf, knownBit, payloadBefore, PayloadAsked}
 use Rattle.assembler.specs.Asked.{LineAsked, KnownLine}
 use Rattle.assembler.proofs.Packing.{packed-as, packed-rest, packed-small}
 
@@ -162,7 +162,7 @@ module _ (bytes start count part before after : ℕ) (P : ℕ → ℕ) (line₀ 
   bit-at j k e h = l .known j (omega arith) ∙ ap (knownBit bytes start part P) e
 
   -- the bytes that are complete
-  bytes-are : (payload₀ payload : List ℕ) → Filled 0 (before / 8) (λ k. packed (λ j. getD line j 0) (8 * k) 8) (after / 8 - before / 8) payload₀ payload
+  bytes-are : (payload₀ payload : List ℕ) → Filled 0 (before / 8) (λ k. bitsNumber (λ j. getD line j 0) (8 * k) 8) (after / 8 - before / 8) payload₀ payload
       → Filled 0 (before / 8) (λ k. byteOf (knownBit bytes start part P) (before / 8 + k)) (after / 8 - before / 8) payload₀ payload
   bytes-are payload₀ payload put =
       fill-as _ _ _ (λ k. byteOf (knownBit bytes start part P) (before / 8 + k)) _ _ _
@@ -170,18 +170,18 @@ module _ (bytes start count part before after : ℕ) (P : ℕ → ℕ) (line₀ 
       (λ i m. bit-at (8 * k + i) (8 * (before / 8 + k) + i) (omega arith) (omega arith)))
       put
 
-  pub bytes-filled : (payload₀ payload : List ℕ) → Filled 0 (before / 8) (λ k. packed (λ j. getD line j 0) (8 * k) 8) (after / 8 - before / 8) payload₀ payload
+  pub bytes-filled : (payload₀ payload : List ℕ) → Filled 0 (before / 8) (λ k. bitsNumber (λ j. getD line j 0) (8 * k) 8) (after / 8 - before / 8) payload₀ payload
       → Filled 0 (payloadBefore bytes start / 8) (λ k. byteOf (knownBit bytes start part P) (payloadBefore bytes start / 8 + k))
       (payloadBefore bytes (start + count) / 8 - payloadBefore bytes start / 8) payload₀ payload
   bytes-filled payload₀ payload put = rw (before-is, after-is) at (bytes-are payload₀ payload put)
 
   -- the part that is left
-  part-is : packed (λ j. getD line j 0) (8 * (after / 8 - before / 8)) 8 ≡ partOf (knownBit bytes start part P) after
+  part-is : bitsNumber (λ j. getD line j 0) (8 * (after / 8 - before / 8)) 8 ≡ partOf (knownBit bytes start part P) after
   part-is =
       packed-rest (λ j. getD line j 0) (8 * (after / 8 - before / 8)) (after % 8) 8 (omega arith)
       (λ k h. l .rest (8 * (after / 8 - before / 8) + k) (omega (arith, ordered)))
       ∙ packed-as (λ j. getD line j 0) (knownBit bytes start part P) (8 * (after / 8 - before / 8)) (8 * (after / 8)) (after % 8)
       (λ i m. bit-at (8 * (after / 8 - before / 8) + i) (8 * (after / 8) + i) (omega (arith, ordered)) (omega arith))
 
-  pub part-left : packed (λ j. getD line j 0) (8 * (after / 8 - before / 8)) 8 ≡ partOf (knownBit bytes start part P) (payloadBefore bytes (start + count))
+  pub part-left : bitsNumber (λ j. getD line j 0) (8 * (after / 8 - before / 8)) 8 ≡ partOf (knownBit bytes start part P) (payloadBefore bytes (start + count))
   part-left = part-is ∙ ap (partOf (knownBit bytes start part P)) after-is

@@ -11,16 +11,16 @@ abbrev pub payloadBefore : (bytes d : ℕ) → ℕ
 payloadBefore bytes d = min (d - 16) (8 * bytes)
 
 -- the number that r bits from a on write, the first the lowest
-unfoldable pub packed : (f : ℕ → ℕ) (a r : ℕ) → ℕ
-packed f a zero = 0
-packed f a (suc r) = packed f a r + 2 ^ r * f (a + r)
+unfoldable pub bitsNumber : (f : ℕ → ℕ) (a r : ℕ) → ℕ
+bitsNumber f a zero = 0
+bitsNumber f a (suc r) = bitsNumber f a r + 2 ^ r * f (a + r)
 
 -- byte j of payload bits, and the "part of a byte" that the first m bits leave
 abbrev pub byteOf : (f : ℕ → ℕ) (j : ℕ) → ℕ
-byteOf f j = packed f (8 * j) 8
+byteOf f j = bitsNumber f (8 * j) 8
 
 abbrev pub partOf : (f : ℕ → ℕ) (m : ℕ) → ℕ
-partOf f m = packed f (8 * (m / 8)) (m % 8)
+partOf f m = bitsNumber f (8 * (m / 8)) (m % 8)
 
 -- payload bit k as it is known after a symbol with plain bits P: out of the part of a byte before the symbol, or out of the symbol
 unfoldable pub knownBit : (bytes start part : ℕ) (P : ℕ → ℕ) (k : ℕ) → ℕ

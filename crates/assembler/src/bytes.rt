@@ -5,7 +5,7 @@ ghost use mathlib.Core.Path.{_≡_};
 ghost use Prim.Native.Nat.{_+_, _-_, _*_, _/_, _≤_};
 ghost use lib.ListN.{getD};
 ghost use Rattle.laws.specs.Filled.{Filled};
-ghost use Rattle.assembler.specs.Assembled.{payloadBefore, packed, byteOf, partOf, knownBit, PayloadAsked};
+ghost use Rattle.assembler.specs.Assembled.{payloadBefore, bitsNumber, byteOf, partOf, knownBit, PayloadAsked};
 ghost use Rattle.assembler.specs.Asked.{CopyAsked, LineAsked, KnownLine, PackAsked, BytesAsked};
 
 // The payload bits before a data bit.
@@ -58,7 +58,7 @@ fn put_line(
 // Eight bits of a line as a byte, low bit first.
 fn pack(line: &[u8], at: usize) -> u8
     requires { ⌜ PackAsked (now line) at ⌝ }
-    ensures { λ r. ⌜ r ≡ packed (λ k. getD (now (line .entry)) k 0) at 8 ⌝ }
+    ensures { λ r. ⌜ r ≡ bitsNumber (λ k. getD (now (line .entry)) k 0) at 8 ⌝ }
 {
     let low = nibble(line[at], line[at + 1], line[at + 2], line[at + 3]);
     let high = nibble(line[at + 4], line[at + 5], line[at + 6], line[at + 7]);
@@ -68,7 +68,7 @@ fn pack(line: &[u8], at: usize) -> u8
 // Whole bytes of a line, written from one place of the payload on.
 fn put_bytes(payload: &mut [u8], line: &[u8], first: usize, count: usize)
     requires { ⌜ BytesAsked (now payload) (now line) first count ⌝ }
-    ensures { λ _. ⌜ Filled 0 first (λ k. packed (λ j. getD (now (line .entry)) j 0) (8 * k) 8) count (now (payload .entry)) (now (payload .exit)) ⌝ }
+    ensures { λ _. ⌜ Filled 0 first (λ k. bitsNumber (λ j. getD (now (line .entry)) j 0) (8 * k) 8) count (now (payload .entry)) (now (payload .exit)) ⌝ }
 {
     let mut k: usize = 0;
     while k < count {

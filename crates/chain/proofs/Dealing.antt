@@ -9,14 +9,14 @@ use Rattle.laws.specs.Test.{below-at, below-of}
 use Rattle.laws.proofs.Reflect.{eqb-of}
 use Rattle.laws.proofs.Radix.{rem-of, quot-of}
 use Rattle.chain.specs.Puncture.{keptStep}
-use Rattle.chain.specs.Decoder.{pushed, historyAfter, sumAfter, codedAfter, forcedInput, dealt, inputsOf, checks}
+use Rattle.chain.specs.Decoder.{historyWith, historyAfter, sumAfter, codedAfter, forcedInput, dealt, inputsOf, checks}
 use Rattle.chain.proofs.Inverse.{forced-back, check-back, forced-gives, sum-bit}
 
 -- only the inputs so far count for a history
 pub history-ext : (h : ℕ) (x y : ℕ → ℕ) (t : ℕ) → ((s : ℕ) → s < t → x s ≡ y s) → historyAfter h x t ≡ historyAfter h y t
 unfolding historyAfter
 history-ext h x y zero e = refl
-history-ext h x y (suc t) e = ap₂ pushed (history-ext h x y t (λ s l. e s (omega arith))) (e t (omega arith))
+history-ext h x y (suc t) e = ap₂ historyWith (history-ext h x y t (λ s l. e s (omega arith))) (e t (omega arith))
 
 -- and for a kept bit
 pub coded-ext : (h : ℕ) (x y : ℕ → ℕ) (q i : ℕ) → ((s : ℕ) → s ≤ keptStep q i → x s ≡ y s) → codedAfter h x q i ≡ codedAfter h y q i

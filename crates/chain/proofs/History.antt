@@ -5,7 +5,7 @@ use Prim.Native.Nat.{ℕ, _+_, _*_, _/_, _%_, _<_, _≤_}
 use native.Mathlib.Omega.{arith}
 use lib.Dec.{lit≤}
 use Rattle.chain.specs.Encoder.{sumA, sumB}
-use Rattle.chain.specs.Decoder.{historyOf, pushed, historyA, historyB}
+use Rattle.chain.specs.Decoder.{historyOfTaps, historyWith, historyA, historyB}
 
 by2 : (h a r : ℕ) → h ≡ a + 2 * r → a < 2 → h / 2 ≡ r
 by2 h a r e l = omega arith
@@ -59,21 +59,21 @@ module _ (b u1 u2 u3 u4 u5 u6 : ℕ) (l1 : u1 < 2) (l2 : u2 < 2) (l3 : u3 < 2) (
 
 module _ (u : ℕ → ℕ) (bit : (k : ℕ) → k ≤ 6 → u k < 2) where
   -- sum A of the history's number is sum A of its taps
-  pub history-A : historyA (historyOf u) (u 0) ≡ sumA u
+  pub history-A : historyA (historyOfTaps u) (u 0) ≡ sumA u
   unfolding h
   history-A =
       same-A (u 0) (u 1) (u 2) (u 3) (u 4) (u 5) (u 6)
       (bit 1 (lit≤ tt)) (bit 2 (lit≤ tt)) (bit 3 (lit≤ tt)) (bit 4 (lit≤ tt)) (bit 5 (lit≤ tt)) (bit 6 (lit≤ tt))
 
   -- and sum B is sum B
-  pub history-B : historyB (historyOf u) (u 0) ≡ sumB u
+  pub history-B : historyB (historyOfTaps u) (u 0) ≡ sumB u
   unfolding h
   history-B =
       same-B (u 0) (u 1) (u 2) (u 3) (u 4) (u 5) (u 6)
       (bit 1 (lit≤ tt)) (bit 2 (lit≤ tt)) (bit 3 (lit≤ tt)) (bit 4 (lit≤ tt)) (bit 5 (lit≤ tt)) (bit 6 (lit≤ tt))
 
   -- one step on, where v k is u (k - 1)
-  pub history-moves : (v : ℕ → ℕ) → ((k : ℕ) → v (k + 1) ≡ u k) → pushed (historyOf u) (u 0) ≡ historyOf v
+  pub history-moves : (v : ℕ → ℕ) → ((k : ℕ) → v (k + 1) ≡ u k) → historyWith (historyOfTaps u) (u 0) ≡ historyOfTaps v
   unfolding h
   history-moves v e =
       moved (u 0) (u 1) (u 2) (u 3) (u 4) (u 5) (u 6)

@@ -9,7 +9,7 @@ use native.Mathlib.Omega.{arith}
 use lib.Dec.{eqb}
 use Rattle.laws.proofs.Radix.{rem-of, quot-of}
 use Rattle.chain.specs.Puncture.{keptStep}
-use Rattle.chain.specs.Decoder.{pushed, historyA, historyB, historyAfter, sumAfter, codedAfter, forcingBit, forcedHistory, forcedInput}
+use Rattle.chain.specs.Decoder.{historyWith, historyA, historyB, historyAfter, sumAfter, codedAfter, forcingBit, forcedHistory, forcedInput}
 use Rattle.chain.proofs.KeptLaws.{step-below}
 
 twice : (b w x y z : ℕ) → ((b + w + x + y + z) % 2 + w + x + y + z) % 2 ≡ b % 2
@@ -73,7 +73,7 @@ module _ (q : ℕ) (two : 2 ≤ q) where
   pub forced-history : (h : ℕ) (c : ℕ → ℕ) (t : ℕ) → forcedHistory h c q t ≡ historyAfter h (forcedInput h c q) t
   unfolding forcedHistory historyAfter forcedInput
   forced-history h c zero = refl
-  forced-history h c (suc t) = ap₂ pushed (forced-history h c t) refl
+  forced-history h c (suc t) = ap₂ historyWith (forced-history h c t) refl
 
   -- c are the kept bits of n groups of inputs x after history h
   module _ (h : ℕ) (x c : ℕ → ℕ) (n : ℕ) (bits : (t : ℕ) → t < (q - 1) * n → x t < 2) (from : (i : ℕ) → i < q * n → c i ≡ codedAfter h x q i) where
@@ -85,7 +85,7 @@ module _ (q : ℕ) (two : 2 ≤ q) where
     histories : (t : ℕ) → t ≤ (q - 1) * n → forcedHistory h c q t ≡ historyAfter h x t
     unfolding forcedHistory historyAfter forcedInput
     histories zero l = refl
-    histories (suc t) l = ap₂ pushed (histories t (omega arith)) (force t l (histories t (omega arith)))
+    histories (suc t) l = ap₂ historyWith (histories t (omega arith)) (force t l (histories t (omega arith)))
 
     -- recovery: kept bits of inputs x force x
     pub forced-back : (t : ℕ) → t < (q - 1) * n → forcedInput h c q t ≡ x t

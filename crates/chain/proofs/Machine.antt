@@ -14,7 +14,7 @@ use Rattle.laws.proofs.Search.{lt-or-le}
 use Rattle.chain.specs.Plan.{keptCounts}
 use Rattle.chain.specs.Encoder.{tap}
 use Rattle.chain.specs.Puncture.{keptStep, keptBit}
-use Rattle.chain.specs.Decoder.{historyOf, pushed, historyAfter, sumAfter, codedAfter, dealt}
+use Rattle.chain.specs.Decoder.{historyOfTaps, historyWith, historyAfter, sumAfter, codedAfter, dealt}
 use Rattle.chain.proofs.Counts.{kept-low}
 use Rattle.chain.proofs.KeptLaws.{kept-form, sumAt}
 use Rattle.chain.proofs.Window.{shift-place, shift-step}
@@ -45,14 +45,14 @@ module _ (x : ℕ → ℕ) (e j : ℕ) (bits : (d : ℕ) → x d < 2) where
   tap-new t = simp (le-ltb t 0 zero-le, sub-zero)
 
   -- the history from zero is the number of the taps
-  pub history-is : (t : ℕ) → historyAfter 0 (dealt x e j) t ≡ historyOf (tap x e j t)
+  pub history-is : (t : ℕ) → historyAfter 0 (dealt x e j) t ≡ historyOfTaps (tap x e j t)
   unfolding historyAfter
   history-is zero =
       omega (arith, tap-zero 1 (lit≤ tt), tap-zero 2 (lit≤ tt), tap-zero 3 (lit≤ tt), tap-zero 4 (lit≤ tt), tap-zero 5 (lit≤ tt), tap-zero 6 (lit≤ tt))
   history-is (suc t) =
-      ap₂ pushed (history-is t) (sym (tap-new t)) ∙ history-moves (tap x e j t) (λ k l. tap-bit t k) (tap x e j (suc t)) (λ k. tap-next t k)
+      ap₂ historyWith (history-is t) (sym (tap-new t)) ∙ history-moves (tap x e j t) (λ k l. tap-bit t k) (tap x e j (suc t)) (λ k. tap-next t k)
 
-  sum-is : (m t : ℕ) → sumAfter m (historyOf (tap x e j t)) (tap x e j t 0) ≡ sumAt m (tap x e j t)
+  sum-is : (m t : ℕ) → sumAfter m (historyOfTaps (tap x e j t)) (tap x e j t 0) ≡ sumAt m (tap x e j t)
   unfolding sumAfter
   sum-is m t = ap₂ (cond (eqb (m % 2) 0)) (history-A (tap x e j t) (λ k l. tap-bit t k)) (history-B (tap x e j t) (λ k l. tap-bit t k))
 
@@ -74,7 +74,7 @@ history-small h x (suc t) l = mod-lt _ (omega arith)
 pub history-on : (h : ℕ) (x : ℕ → ℕ) (a t : ℕ) → historyAfter h x (a + t) ≡ historyAfter (historyAfter h x a) (λ s. x (a + s)) t
 unfolding historyAfter
 history-on h x a zero = ap (historyAfter h x) (add-zero a)
-history-on h x a (suc t) = rw add-suc (ap₂ pushed (history-on h x a t) refl)
+history-on h x a (suc t) = rw add-suc (ap₂ historyWith (history-on h x a t) refl)
 
 -- and so do its kept bits, n symbols of g groups on
 pub coded-on : (h : ℕ) (x : ℕ → ℕ) (q g n i : ℕ) → 2 ≤ q

@@ -11,16 +11,16 @@ use Rattle.chain.specs.Parser.{axisBits, encoderOf, indexOf, streamOf, b
 use Rattle.chain.specs.Interleaver.{place, source}
 
 -- an encoder's last six inputs as a number, u k the input of k steps before: the newest is bit 0
-abbrev pub historyOf : (u : ℕ → ℕ) → ℕ
-historyOf u = u 1 + 2 * u 2 + 4 * u 3 + 8 * u 4 + 16 * u 5 + 32 * u 6
+abbrev pub historyOfTaps : (u : ℕ → ℕ) → ℕ
+historyOfTaps u = u 1 + 2 * u 2 + 4 * u 3 + 8 * u 4 + 16 * u 5 + 32 * u 6
 
 -- the history after one input more, and after t inputs x
-abbrev pub pushed : (h b : ℕ) → ℕ
-pushed h b = (2 * h + b) % 64
+abbrev pub historyWith : (h b : ℕ) → ℕ
+historyWith h b = (2 * h + b) % 64
 
 unfoldable pub historyAfter : (h : ℕ) (x : ℕ → ℕ) (t : ℕ) → ℕ
 historyAfter h x zero = h
-historyAfter h x (suc t) = pushed (historyAfter h x t) (x t)
+historyAfter h x (suc t) = historyWith (historyAfter h x t) (x t)
 
 -- sums A and B of input b after history h, and the one at place m of a pattern: they alternate, A first
 abbrev pub historyA : (h b : ℕ) → ℕ
@@ -42,7 +42,7 @@ forcingBit kept t = t / (kept - 1) * kept + (t % (kept - 1) + 1)
 
 -- the forced input is the same sum with the kept bit in the input's place
 abbrev pub forcedPush : (m c h : ℕ) → ℕ
-forcedPush m c h = pushed h (sumAfter m h c)
+forcedPush m c h = historyWith h (sumAfter m h c)
 
 unfoldable pub forcedHistory : (h : ℕ) (c : ℕ → ℕ) (kept t : ℕ) → ℕ
 forcedHistory h c kept zero = h

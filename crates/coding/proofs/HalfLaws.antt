@@ -27,7 +27,7 @@ use Rattle.chain.proofs.LabelLaws.{written-from, halves-most}
 use Rattle.sources.specs.Sources.{labelSource}
 use Rattle.sources.proofs.SourceLaws.{small}
 use Rattle.sources.proofs.TableLaws.{coded-room, place-there, turned-bit}
-use Rattle.coding.specs.Halves.{halfAt, labelIn, halfIn, HalfAsked, RunAsked, HalvesFilled}
+use Rattle.coding.specs.Halves.{halfAt, labelIn, halfIn, HalfAsked, HalfRunAsked, HalvesFilled}
 
 -- bit t of half m is in the table, and what stands there among the coded bits
 pub bit-asked : {coded table : List ℕ} {s shift m : ℕ} → HalfAsked coded table s shift m
@@ -62,7 +62,7 @@ three-bits f s m a b d e first second third =
     rw e (omega (arith, first ∙ at, second ∙ next, third ∙ last))
 
 -- what a run asks, each of its halves asks
-pub run-asked : {halves coded table : List ℕ} {s shift to from count : ℕ} → RunAsked halves coded table s shift to from count
+pub run-asked : {halves coded table : List ℕ} {s shift to from count : ℕ} → HalfRunAsked halves coded table s shift to from count
     → (m : ℕ) → m < count → HalfAsked coded table s shift (from + m)
 run-asked {s = s} {from = from} {count = count} h m l = record {
   axis = h .axis;
@@ -235,7 +235,7 @@ module _ (p : Plan) (f : Fits p) where
 
         -- what a run within the stream's halves asks
         pub turned-run : {halves coded : List ℕ} (to from n : ℕ) → p .streams * halvesOf p ≤ length halves → length coded ≡ 2592
-            → p .block ≤ length table → from + n ≤ count → to + n ≤ i * count + count → RunAsked halves coded table s (i * s) to from n
+            → p .block ≤ length table → from + n ≤ count → to + n ≤ i * count + count → HalfRunAsked halves coded table s (i * s) to from n
         turned-run {halves} {coded} to from n room sized wide low high =
             let bits : (from + n) * s ≤ count * s = mul-le-mul-right s low in
             let whole = t .whole in

@@ -29,7 +29,7 @@ pub record HalfAsked (coded table : List ℕ) (s shift m : ℕ) : Type 0 where
   pub inside : (t : ℕ) → t < s → m * s + t < length table
   pub reached : (t : ℕ) → t < s → getD table (m * s + t) 0 + shift < length coded
 
-pub record RunAsked (halves coded table : List ℕ) (s shift to from count : ℕ) : Type 0 where
+pub record HalfRunAsked (halves coded table : List ℕ) (s shift to from count : ℕ) : Type 0 where
   pub axis : T (among axisCounts s)
   pub few : from + count ≤ 648
   pub room : to + count ≤ length halves
@@ -44,7 +44,7 @@ pub record HalvesAsked (halves coded : List ℕ) (p : Plan) : Type 0 where
   pub sized : length coded ≡ 2592
 
 -- the same, with the table of label sources at hand, for stream i
-pub record StreamAsked (halves coded table : List ℕ) (p : Plan) (i : ℕ) : Type 0 where
+pub record HalfStreamAsked (halves coded table : List ℕ) (p : Plan) (i : ℕ) : Type 0 where
   pub fits : Fits p
   pub room : p .streams * halvesOf p ≤ length halves
   pub sized : length coded ≡ 2592

@@ -4,7 +4,7 @@ use chain::plan::axis_bits;
 use inputs::line::coder_inputs;
 use puncturing::coded::coded_bits;
 use sources::sources::label_sources;
-use sources::sources::wide;
+use sources::sources::source_index;
 ghost use mathlib.Core.Path.{_≡_};
 ghost use Prim.Native.Nat.{_+_, _*_, _/_, _%_, _<_, _≤_};
 ghost use lib.ListN.{length, getD};
@@ -13,14 +13,14 @@ ghost use Rattle.chain.specs.Interleaver.{rotation};
 ghost use Rattle.chain.specs.DataBits.{payloadBit, coderInput};
 ghost use Rattle.chain.specs.Labels.{halfLabel, halvesOf};
 ghost use Rattle.chain.specs.Plan.{Fits, groupsOf};
-ghost use Rattle.coding.specs.Halves.{halfAt, halfIn, HalfAsked, RunAsked, HalvesAsked, StreamAsked, HalvesFilled, LabelsAsked};
+ghost use Rattle.coding.specs.Halves.{halfAt, halfIn, HalfAsked, HalfRunAsked, HalvesAsked, HalfStreamAsked, HalvesFilled, LabelsAsked};
 
 // The coded bit at a place of the table, `shift` places on.
 fn coded_at(coded: &[u8], table: &[u16], shift: usize, r: usize) -> u8
     requires { ⌜ (r < length (now table)) × (getD (now table) r 0 + shift < length (now coded)) ⌝ }
     ensures { λ b. ⌜ b ≡ getD (now (coded .entry)) (getD (now (table .entry)) r 0 + shift) 0 % 2 ⌝ }
 {
-    coded[wide(table[r]) + shift] % 2
+    coded[source_index(table[r]) + shift] % 2
 }
 
 // Half label m, the first bit the highest.
@@ -49,7 +49,7 @@ fn run(
     from: usize,
     count: usize,
 )
-    requires { ⌜ RunAsked (now halves) (now coded) (now table) s shift to from count ⌝ }
+    requires { ⌜ HalfRunAsked (now halves) (now coded) (now table) s shift to from count ⌝ }
     ensures { λ _. ⌜ Filled 0 to (λ m. halfAt (now (coded .entry)) (now (table .entry)) s shift (from + m)) count (now (halves .entry)) (now (halves .exit)) ⌝ }
 {
     let mut m: usize = 0;
@@ -79,7 +79,7 @@ fn halves_of(bits: usize, carriers: usize) -> usize
 
 // Stream i's half labels: the table's, from the stream's rotation on and round.
 fn stream_halves(halves: &mut [u8], coded: &[u8], table: &[u16], plan: Plan, i: usize)
-    requires { ⌜ StreamAsked (now halves) (now coded) (now table) plan i ⌝ }
+    requires { ⌜ HalfStreamAsked (now halves) (now coded) (now table) plan i ⌝ }
     ensures { λ _. ⌜ Filled 0 (i * halvesOf plan) (λ m. halfIn plan (now (coded .entry)) i m) (halvesOf plan) (now (halves .entry)) (now (halves .exit)) ⌝ }
 {
     let s = axis_bits(plan.bits);

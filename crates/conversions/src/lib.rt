@@ -42,7 +42,7 @@ pub fn raw_settings(
 }
 
 // A byte as a part of a number.
-pub fn wide(x: u8) -> u64
+pub fn byte_number(x: u8) -> u64
     ensures { λ r. ⌜ (r ≡ x) × (r < 256) ⌝ }
 {
     x as u64

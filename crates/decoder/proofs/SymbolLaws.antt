@@ -22,9 +22,9 @@ use Rattle.chain.proofs.Window.{share-is}
 use Rattle.chain.proofs.Inverse.{forced-history}
 use Rattle.chain.proofs.Dealing.{history-ext}
 use Rattle.chain.proofs.ParserLaws.{parses}
-use Rattle.deinterleaver.specs.Deinterleaved.{bitsIn, codedOf}
+use Rattle.deinterleaver.specs.Deinterleaved.{labelBitIn, codedOf}
 use Rattle.deinterleaver.specs.Asked.{Placed}
-use Rattle.decoder.specs.Decoded.{historyMoved, SymbolAsked}
+use Rattle.decoder.specs.Decoded.{historyMoved, SymbolInputsAsked}
 use Rattle.decoder.specs.Asked.{EncodersAsked, EncodersDone}
 use Rattle.decoder.proofs.ExtLaws.{forced-history-ext, inputs-ext, checks-ext}
 
@@ -36,7 +36,7 @@ deal hs c e q j t l =
     rw (rem-of e t j (e * t + j) l f, quot-of e t j (e * t + j) l f)
 
 -- every coded bit of label bits is one of them
-coded-small : (p : Plan) (bits : List ℕ) → ((k : ℕ) → getD bits k 0 < 2) → (j y : ℕ) → codedIn p (bitsIn p bits) j y < 2
+coded-small : (p : Plan) (bits : List ℕ) → ((k : ℕ) → getD bits k 0 < 2) → (j y : ℕ) → codedIn p (labelBitIn p bits) j y < 2
 unfolding codedIn
 coded-small p bits small j y = small _
 
@@ -53,11 +53,11 @@ module _ (p : Plan) (f : Fits p) where
       omega (arith, low, f .coded-groups, f .coded-most)
 
   module _ {bits coded₀ coded : List ℕ} (placed : Placed p bits (p .streams) coded₀ coded) where
-    coded-is : (j y : ℕ) → j < p .encoders → y < p .kept * groupsOf p → codedOf coded j y ≡ codedIn p (bitsIn p bits) j y
+    coded-is : (j y : ℕ) → j < p .encoders → y < p .kept * groupsOf p → codedOf coded j y ≡ codedIn p (labelBitIn p bits) j y
     coded-is j y h l = placed .done j y h (rw (share-is p f) l) (parses p f .stream-lt y)
 
     -- what the decoder of all encoders asks
-    pub encoders-asked : {inputs histories : List ℕ} (groups : ℕ) → groups ≡ groupsOf p → SymbolAsked inputs bits histories p → length coded ≡ 2592
+    pub encoders-asked : {inputs histories : List ℕ} (groups : ℕ) → groups ≡ groupsOf p → SymbolInputsAsked inputs bits histories p → length coded ≡ 2592
         → EncodersAsked inputs coded histories (p .encoders) (p .kept) groups
     encoders-asked groups e asked sized = rw e (record {
       one-or-two = f .encoders;
@@ -72,17 +72,17 @@ module _ (p : Plan) (f : Fits p) where
 
     module _ (hs : ℕ → ℕ) where
       abbrev X : ℕ → ℕ
-      X = decodedInput p hs (bitsIn p bits)
+      X = decodedInput p hs (labelBitIn p bits)
 
       -- a history after the coded bits is that after the inputs
       moved-is : (j : ℕ) → j < p .encoders
           → forcedHistory (hs j) (codedOf coded j) (p .kept) ((p .kept - 1) * groupsOf p)
           ≡ historyAfter (hs j) (dealt X (p .encoders) j) ((p .kept - 1) * groupsOf p)
       moved-is j h =
-          forced-history-ext (p .kept) two (hs j) (codedOf coded j) (codedIn p (bitsIn p bits) j) (groupsOf p) (λ i l. coded-is j i h l)
+          forced-history-ext (p .kept) two (hs j) (codedOf coded j) (codedIn p (labelBitIn p bits) j) (groupsOf p) (λ i l. coded-is j i h l)
           ((p .kept - 1) * groupsOf p) (omega arith)
-          ∙ forced-history (p .kept) two (hs j) (codedIn p (bitsIn p bits) j) ((p .kept - 1) * groupsOf p)
-          ∙ history-ext (hs j) _ _ ((p .kept - 1) * groupsOf p) (λ t l. deal hs (codedIn p (bitsIn p bits)) (p .encoders) (p .kept) j t h)
+          ∙ forced-history (p .kept) two (hs j) (codedIn p (labelBitIn p bits) j) ((p .kept - 1) * groupsOf p)
+          ∙ history-ext (hs j) _ _ ((p .kept - 1) * groupsOf p) (λ t l. deal hs (codedIn p (labelBitIn p bits)) (p .encoders) (p .kept) j t h)
 
       first-moved : forcedHistory (hs 0) (codedOf coded 0) (p .kept) ((p .kept - 1) * groupsOf p) ≡ historyMoved p hs X 0
       unfolding historyMoved
@@ -100,15 +100,15 @@ module _ (p : Plan) (f : Fits p) where
         done′ : EncodersDone hs (codedOf coded) (p .encoders) (p .kept) (groupsOf p) histories sound inputs₀ inputs
         done′ = rw e at done
 
-        pub symbol-filled : Filled 0 0 (decodedInput p hs (bitsIn p bits)) (p .dbps) inputs₀ inputs
+        pub symbol-filled : Filled 0 0 (decodedInput p hs (labelBitIn p bits)) (p .dbps) inputs₀ inputs
         symbol-filled =
-            fill-end 0 0 (decodedInput p hs (bitsIn p bits)) (sym (f .dbps-groups))
-            (fill-as 0 0 _ (decodedInput p hs (bitsIn p bits)) (p .encoders * ((p .kept - 1) * groupsOf p)) inputs₀ inputs
-            (inputs-ext hs (codedOf coded) (codedIn p (bitsIn p bits)) (p .encoders) (p .kept) (groupsOf p) some two coded-is) (done′ .filled))
+            fill-end 0 0 (decodedInput p hs (labelBitIn p bits)) (sym (f .dbps-groups))
+            (fill-as 0 0 _ (decodedInput p hs (labelBitIn p bits)) (p .encoders * ((p .kept - 1) * groupsOf p)) inputs₀ inputs
+            (inputs-ext hs (codedOf coded) (codedIn p (labelBitIn p bits)) (p .encoders) (p .kept) (groupsOf p) some two coded-is) (done′ .filled))
 
-        pub symbol-sound : sound ≡ decodes p hs (bitsIn p bits)
+        pub symbol-sound : sound ≡ decodes p hs (labelBitIn p bits)
         symbol-sound =
-            done′ .checked ∙ checks-ext hs (codedOf coded) (codedIn p (bitsIn p bits)) (p .encoders) (p .kept) (groupsOf p) some two coded-is
+            done′ .checked ∙ checks-ext hs (codedOf coded) (codedIn p (labelBitIn p bits)) (p .encoders) (p .kept) (groupsOf p) some two coded-is
 
-        pub symbol-moved : histories ≡ historyMoved p hs (decodedInput p hs (bitsIn p bits)) 0 ∷ (historyMoved p hs (decodedInput p hs (bitsIn p bits)) 1 ∷ [])
+        pub symbol-moved : histories ≡ historyMoved p hs (decodedInput p hs (labelBitIn p bits)) 0 ∷ (historyMoved p hs (decodedInput p hs (labelBitIn p bits)) 1 ∷ [])
         symbol-moved = done′ .moved ∙ ap₂ (λ (x y : ℕ). x ∷ (y ∷ [])) first-moved second-moved

@@ -17,7 +17,7 @@ unfoldable pub historyMoved : (p : Plan) (hs X : ℕ → ℕ) (j : ℕ) → ℕ
 historyMoved p hs X j =
     cond (ltb j (p .encoders)) (historyAfter (hs j) (dealt X (p .encoders) j) ((p .kept - 1) * groupsOf p)) (hs j)
 
-pub record SymbolAsked (inputs bits histories : List ℕ) (p : Plan) : Type 0 where
+pub record SymbolInputsAsked (inputs bits histories : List ℕ) (p : Plan) : Type 0 where
   pub fits : Fits p
   pub room : p .dbps ≤ length inputs
   pub whole-bits : p .streams * p .block ≤ length bits

@@ -7,8 +7,8 @@ ghost use mathlib.Core.Path.{_≡_};
 ghost use mathlib.Core.List.{[], _∷_};
 ghost use Rattle.laws.specs.Filled.{Filled};
 ghost use Rattle.chain.specs.Decoder.{decodedInput, decodes};
-ghost use Rattle.deinterleaver.specs.Deinterleaved.{bitsIn, codedOf};
-ghost use Rattle.decoder.specs.Decoded.{historiesIn, historyMoved, SymbolAsked};
+ghost use Rattle.deinterleaver.specs.Deinterleaved.{labelBitIn, codedOf};
+ghost use Rattle.decoder.specs.Decoded.{historiesIn, historyMoved, SymbolInputsAsked};
 ghost use Rattle.decoder.specs.Asked.{EncodersAsked, EncodersDone};
 
 // The histories after a symbol, and whether any inputs give its coded bits.
@@ -47,10 +47,10 @@ fn decode_symbol(
 
 // A symbol's inputs from all streams' label bits, after the encoders' histories.
 pub fn symbol_inputs(inputs: &mut [u8], bits: &[u8], plan: Plan, histories: [u8; 2]) -> Decoded
-    requires { ⌜ SymbolAsked (now inputs) (now bits) histories plan ⌝ }
-    ensures { λ _. ⌜ Filled 0 0 (decodedInput plan (historiesIn histories) (bitsIn plan (now (bits .entry)))) (plan .dbps) (now (inputs .entry)) (now (inputs .exit)) ⌝ }
-    ensures { λ r. ⌜ r .sound ≡ decodes plan (historiesIn histories) (bitsIn plan (now (bits .entry))) ⌝ }
-    ensures { λ r. ⌜ r .histories ≡ historyMoved plan (historiesIn histories) (decodedInput plan (historiesIn histories) (bitsIn plan (now (bits .entry)))) 0 ∷ (historyMoved plan (historiesIn histories) (decodedInput plan (historiesIn histories) (bitsIn plan (now (bits .entry)))) 1 ∷ []) ⌝ }
+    requires { ⌜ SymbolInputsAsked (now inputs) (now bits) histories plan ⌝ }
+    ensures { λ _. ⌜ Filled 0 0 (decodedInput plan (historiesIn histories) (labelBitIn plan (now (bits .entry)))) (plan .dbps) (now (inputs .entry)) (now (inputs .exit)) ⌝ }
+    ensures { λ r. ⌜ r .sound ≡ decodes plan (historiesIn histories) (labelBitIn plan (now (bits .entry))) ⌝ }
+    ensures { λ r. ⌜ r .histories ≡ historyMoved plan (historiesIn histories) (decodedInput plan (historiesIn histories) (labelBitIn plan (now (bits .entry)))) 0 ∷ (historyMoved plan (historiesIn histories) (decodedInput plan (historiesIn histories) (labelBitIn plan (now (bits .entry)))) 1 ∷ []) ⌝ }
 {
     let mut coded = [0u8; 2592];
     symbol_coded(&mut coded, bits, plan);

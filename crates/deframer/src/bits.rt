@@ -51,7 +51,7 @@ pub fn descramble(plain: &mut [u8], inputs: &[u8], state: u8, count: usize)
     take_off(plain, inputs, &outputs, count);
 }
 
-fn wide(x: u8) -> usize
+fn bit_count(x: u8) -> usize
     ensures { λ r. ⌜ (r ≡ x) × (r ≤ 255) ⌝ }
 {
     x as usize
@@ -65,7 +65,7 @@ fn nonzero(bits: &[u8], from: usize, to: usize) -> usize
     let mut total: usize = 0;
     let mut d = from;
     while d < to {
-        total += wide(bits[d]);
+        total += bit_count(bits[d]);
         d += 1;
     }
     total

@@ -22,12 +22,12 @@ use Rattle.chain.proofs.LabelPlaces.{label-of-coded, coded-of-label}
 use Rattle.sources.specs.Sources.{labelSource}
 use Rattle.sources.proofs.SourceLaws.{small}
 use Rattle.sources.proofs.TableLaws.{coded-room, turned-bit}
-use Rattle.deinterleaver.specs.Deinterleaved.{bitsIn, slotOf}
-use Rattle.deinterleaver.specs.Asked.{RunAsked, Placed}
+use Rattle.deinterleaver.specs.Deinterleaved.{labelBitIn, slotOf}
+use Rattle.deinterleaver.specs.Asked.{CodedRunAsked, Placed}
 use Rattle.deinterleaver.proofs.ScatterLaws.{scatter-end, scatter-as, scatter-join}
 
 -- a turn of a run
-pub run-more : {coded₀ coded bits table : List ℕ} {shift from first count : ℕ} (r to : ℕ) → RunAsked coded₀ bits table shift from first count
+pub run-more : {coded₀ coded bits table : List ℕ} {shift from first count : ℕ} (r to : ℕ) → CodedRunAsked coded₀ bits table shift from first count
     → r < count → to ≡ getD table (first + r) 0
     → Scattered 0 (λ k. getD table (first + k) 0 + shift) (λ k. getD bits (from + k) 0) r coded₀ coded
     → Scattered 0 (λ k. getD table (first + k) 0 + shift) (λ k. getD bits (from + k) 0) (r + 1) coded₀ (set coded (to + shift) (getD bits (from + r) 0))
@@ -124,7 +124,7 @@ module _ (p : Plan) (f : Fits p) where
         -- what a run of n label bits from bit `start` on asks
         run-asked : {coded bits : List ℕ} (start first n to : ℕ) → to ≡ i * p .block + start → start + n ≤ p .block → first + n ≤ p .block
             → ((k : ℕ) → k < n → getD table (first + k) 0 + shift ≡ slotOf p i (start + k))
-            → length coded ≡ 2592 → p .streams * p .block ≤ length bits → p .block ≤ length table → RunAsked coded bits table shift to first n
+            → length coded ≡ 2592 → p .streams * p .block ≤ length bits → p .block ≤ length table → CodedRunAsked coded bits table shift to first n
         run-asked {coded} start first n to begins low inside places sized whole wide = record {
           few = omega (arith, block-few);
           near = omega (arith, stream-near);
@@ -136,12 +136,12 @@ module _ (p : Plan) (f : Fits p) where
         }
 
         module _ {coded bits : List ℕ} (sized : length coded ≡ 2592) (whole : p .streams * p .block ≤ length bits) (wide : p .block ≤ length table) where
-          pub first-asked : RunAsked coded bits table shift from turn rest
+          pub first-asked : CodedRunAsked coded bits table shift from turn rest
           first-asked =
               run-asked 0 turn rest from (omega (arith, t .from-is)) (omega (arith, t .whole)) (omega (arith, t .whole))
               (λ k l. first-run k l ∙ ap (slotOf p i) (omega arith)) sized whole wide
 
-          pub second-asked : RunAsked coded bits table shift (from + rest) 0 turn
+          pub second-asked : CodedRunAsked coded bits table shift (from + rest) 0 turn
           second-asked =
               run-asked rest 0 turn (from + rest) (omega (arith, t .from-is)) (omega (arith, t .whole)) (omega (arith, t .whole)) second-run sized whole wide
 
@@ -149,12 +149,12 @@ module _ (p : Plan) (f : Fits p) where
         pub stream-done : (bits c₀ c₁ c₂ : List ℕ)
             → Scattered 0 (λ k. getD table (turn + k) 0 + shift) (λ k. getD bits (from + k) 0) rest c₀ c₁
             → Scattered 0 (λ k. getD table (0 + k) 0 + shift) (λ k. getD bits (from + rest + k) 0) turn c₁ c₂
-            → Scattered 0 (λ r. slotOf p i r) (λ r. bitsIn p bits i r) (p .block) c₀ c₂
+            → Scattered 0 (λ r. slotOf p i r) (λ r. labelBitIn p bits i r) (p .block) c₀ c₂
         stream-done bits c₀ c₁ c₂ one two =
-            scatter-end (omega (arith, t .whole)) (scatter-join (slotOf p i) (bitsIn p bits i) rest turn c₀ c₁ c₂
+            scatter-end (omega (arith, t .whole)) (scatter-join (slotOf p i) (labelBitIn p bits i) rest turn c₀ c₁ c₂
             (λ k l h b. slot-apart k l h (omega (arith, t .whole)))
-            (scatter-as _ (slotOf p i) _ (bitsIn p bits i) rest c₀ c₁ first-run (λ k l. ap (λ (x : ℕ). getD bits x 0) (omega (arith, t .from-is))) one)
-            (scatter-as _ (λ k. slotOf p i (rest + k)) _ (λ k. bitsIn p bits i (rest + k)) turn c₁ c₂ second-run
+            (scatter-as _ (slotOf p i) _ (labelBitIn p bits i) rest c₀ c₁ first-run (λ k l. ap (λ (x : ℕ). getD bits x 0) (omega (arith, t .from-is))) one)
+            (scatter-as _ (λ k. slotOf p i (rest + k)) _ (λ k. labelBitIn p bits i (rest + k)) turn c₁ c₂ second-run
             (λ k l. ap (λ (x : ℕ). getD bits x 0) (omega (arith, t .from-is))) two))
 
 -- before the first stream
@@ -163,7 +163,7 @@ placed-none p bits coded = record { same = refl; done = λ j y hj hy l. absurd (
 
 -- one stream more
 pub placed-more : (p : Plan) (f : Fits p) (bits : List ℕ) (i : ℕ) (c₀ c c′ : List ℕ) → i < p .streams → Placed p bits i c₀ c
-    → Scattered 0 (λ r. slotOf p i r) (λ r. bitsIn p bits i r) (p .block) c c′ → Placed p bits (i + 1) c₀ c′
+    → Scattered 0 (λ r. slotOf p i r) (λ r. labelBitIn p bits i r) (p .block) c c′ → Placed p bits (i + 1) c₀ c′
 unfolding codedIn
 placed-more p f bits i c₀ c c′ hi past new = record {
   same = new .same ∙ past .same;
@@ -180,11 +180,11 @@ placed-more p f bits i c₀ c c′ hi past new = record {
         let z : codedStream p y ≡ i = ap (codedStream p) (e .1) ∙ h .stream-back in
         omega arith
 
-    own : (j y : ℕ) → j < p .encoders → y < share p → codedStream p y ≡ i → getD c′ (1296 * j + y) 0 ≡ codedIn p (bitsIn p bits) j y
+    own : (j y : ℕ) → j < p .encoders → y < share p → codedStream p y ≡ i → getD c′ (1296 * j + y) 0 ≡ codedIn p (labelBitIn p bits) j y
     own j y hj hy e =
         let h = label-of-coded p f j y hj hy in
-        let s : Scattered 0 (λ r. slotOf p (codedStream p y) r) (λ r. bitsIn p bits (codedStream p y) r) (p .block) c c′ =
-        subst (λ (k : ℕ). Scattered 0 (λ r. slotOf p k r) (λ r. bitsIn p bits k r) (p .block) c c′) (sym e) new in
+        let s : Scattered 0 (λ r. slotOf p (codedStream p y) r) (λ r. labelBitIn p bits (codedStream p y) r) (p .block) c c′ =
+        subst (λ (k : ℕ). Scattered 0 (λ r. slotOf p k r) (λ r. labelBitIn p bits k r) (p .block) c c′) (sym e) new in
         ap₂ (λ (a b : ℕ). getD c′ (1296 * a + b) 0) (sym (h .encoder-back)) (sym (h .index-back))
         ∙ s .done (codedPlace p j y) (h .place-lt)
 

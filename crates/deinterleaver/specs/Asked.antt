@@ -9,9 +9,9 @@ use Rattle.chain.specs.Labels.{share}
 use Rattle.chain.specs.Statements.{codedStream}
 use Rattle.chain.specs.Decoder.{codedIn}
 use Rattle.sources.specs.Sources.{labelSource}
-use Rattle.deinterleaver.specs.Deinterleaved.{bitsIn, codedOf}
+use Rattle.deinterleaver.specs.Deinterleaved.{labelBitIn, codedOf}
 
-pub record RunAsked (coded bits table : List ℕ) (shift from first count : ℕ) : Type 0 where
+pub record CodedRunAsked (coded bits table : List ℕ) (shift from first count : ℕ) : Type 0 where
   pub few : first + count ≤ 648
   pub near : from + count ≤ 2592
   pub sized : length coded ≡ 2592
@@ -21,7 +21,7 @@ pub record RunAsked (coded bits table : List ℕ) (shift from first count : ℕ)
   pub apart : (k l : ℕ) → k < l → l < count → getD table (first + k) 0 + shift ≡ getD table (first + l) 0 + shift → ⊥
 
 -- with the table of label sources at hand, for stream i
-pub record StreamAsked (coded bits table : List ℕ) (p : Plan) (i : ℕ) : Type 0 where
+pub record CodedStreamAsked (coded bits table : List ℕ) (p : Plan) (i : ℕ) : Type 0 where
   pub fits : Fits p
   pub sized : length coded ≡ 2592
   pub whole-bits : p .streams * p .block ≤ length bits
@@ -29,7 +29,7 @@ pub record StreamAsked (coded bits table : List ℕ) (p : Plan) (i : ℕ) : Type
   pub wide-enough : p .block ≤ length table
   pub tabled : (r : ℕ) → r < p .block → getD table r 0 ≡ labelSource p r
 
-pub record CodedAsked (coded bits : List ℕ) (p : Plan) : Type 0 where
+pub record SymbolCodedAsked (coded bits : List ℕ) (p : Plan) : Type 0 where
   pub fits : Fits p
   pub sized : length coded ≡ 2592
   pub whole-bits : p .streams * p .block ≤ length bits
@@ -37,4 +37,4 @@ pub record CodedAsked (coded bits : List ℕ) (p : Plan) : Type 0 where
 -- the coded bits of the first streams are their label bits'
 pub record Placed (p : Plan) (bits : List ℕ) (streams : ℕ) (coded₀ coded : List ℕ) : Type 0 where
   pub same : length coded ≡ length coded₀
-  pub done : (j y : ℕ) → j < p .encoders → y < share p → codedStream p y < streams → codedOf coded j y ≡ codedIn p (bitsIn p bits) j y
+  pub done : (j y : ℕ) → j < p .encoders → y < share p → codedStream p y < streams → codedOf coded j y ≡ codedIn p (labelBitIn p bits) j y

@@ -8,8 +8,8 @@ use Rattle.chain.specs.Interleaver.{source}
 use Rattle.sources.specs.Sources.{codedSlot}
 
 -- bit r of stream i's block in a list of all streams' label bits, stream by stream
-abbrev pub bitsIn : (p : Plan) (bits : List ℕ) (i r : ℕ) → ℕ
-bitsIn p bits i r = getD bits (i * p .block + r) 0
+abbrev pub labelBitIn : (p : Plan) (bits : List ℕ) (i r : ℕ) → ℕ
+labelBitIn p bits i r = getD bits (i * p .block + r) 0
 
 -- where label bit r of stream i stands among the coded bits
 abbrev pub slotOf : (p : Plan) (i r : ℕ) → ℕ

@@ -3,12 +3,12 @@ use chain::plan::Plan;
 use chain::plan::axis_bits;
 use coding::labels::rotated_carriers;
 use sources::sources::label_sources;
-use sources::sources::wide;
+use sources::sources::source_index;
 ghost use Prim.Native.Nat.{_+_};
 ghost use lib.ListN.{getD};
 ghost use Rattle.laws.specs.Scattered.{Scattered};
-ghost use Rattle.deinterleaver.specs.Deinterleaved.{bitsIn, slotOf};
-ghost use Rattle.deinterleaver.specs.Asked.{RunAsked, StreamAsked, CodedAsked, Placed};
+ghost use Rattle.deinterleaver.specs.Deinterleaved.{labelBitIn, slotOf};
+ghost use Rattle.deinterleaver.specs.Asked.{CodedRunAsked, CodedStreamAsked, SymbolCodedAsked, Placed};
 
 // Label bits from `from` on, each to its place of the table, from `first` on, `shift` places on.
 fn put_run(
@@ -20,12 +20,12 @@ fn put_run(
     first: usize,
     count: usize,
 )
-    requires { ⌜ RunAsked (now coded) (now bits) (now table) shift from first count ⌝ }
+    requires { ⌜ CodedRunAsked (now coded) (now bits) (now table) shift from first count ⌝ }
     ensures { λ _. ⌜ Scattered 0 (λ k. getD (now (table .entry)) (first + k) 0 + shift) (λ k. getD (now (bits .entry)) (from + k) 0) count (now (coded .entry)) (now (coded .exit)) ⌝ }
 {
     let mut r: usize = 0;
     while r < count {
-        let at = wide(table[first + r]) + shift;
+        let at = source_index(table[first + r]) + shift;
         coded[at] = bits[from + r];
         r += 1;
     }
@@ -33,8 +33,8 @@ fn put_run(
 
 // Stream i's label bits: the table's places from the stream's rotation on, and round.
 fn stream_coded(coded: &mut [u8], bits: &[u8], table: &[u16], plan: Plan, i: usize)
-    requires { ⌜ StreamAsked (now coded) (now bits) (now table) plan i ⌝ }
-    ensures { λ _. ⌜ Scattered 0 (λ r. slotOf plan i r) (λ r. bitsIn plan (now (bits .entry)) i r) (plan .block) (now (coded .entry)) (now (coded .exit)) ⌝ }
+    requires { ⌜ CodedStreamAsked (now coded) (now bits) (now table) plan i ⌝ }
+    ensures { λ _. ⌜ Scattered 0 (λ r. slotOf plan i r) (λ r. labelBitIn plan (now (bits .entry)) i r) (plan .block) (now (coded .entry)) (now (coded .exit)) ⌝ }
 {
     let block = plan.block;
     let shift = i * axis_bits(plan.bits);
@@ -47,7 +47,7 @@ fn stream_coded(coded: &mut [u8], bits: &[u8], table: &[u16], plan: Plan, i: usi
 
 // All streams' label bits: bit y of encoder j goes to 1296·j + y.
 pub fn symbol_coded(coded: &mut [u8], bits: &[u8], plan: Plan)
-    requires { ⌜ CodedAsked (now coded) (now bits) plan ⌝ }
+    requires { ⌜ SymbolCodedAsked (now coded) (now bits) plan ⌝ }
     ensures { λ _. ⌜ Placed plan (now (bits .entry)) (plan .streams) (now (coded .entry)) (now (coded .exit)) ⌝ }
 {
     let mut table = [0u16; 648];

@@ -53,11 +53,11 @@ pub same-count : Counts
 same-count a a′ e = ap (λ (b : RawSettings). countOf (checkOf b)) e
 
 -- the six bytes do not depend on what was in the slice
-six-written : (k : Checked) (out out′ : List ℕ) → length out ≡ length out′
+same-six-written : (k : Checked) (out out′ : List ℕ) → length out ≡ length out′
     → (writtenOf k (length out) ≡ writtenOf k (length out′))
     × (writtenOf k (length out) ≡ Done → (j : ℕ) → j < 6 → getD (writtenInto k out) j 0 ≡ getD (writtenInto k out′) j 0)
 unfolding sigBytes
-six-written (Accepted s) out out′ e = (ap (writtenOf (Accepted s)) e, go (ltb (length out) 6) refl)
+same-six-written (Accepted s) out out′ e = (ap (writtenOf (Accepted s)) e, go (ltb (length out) 6) refl)
   where
     sig : List ℕ
     sig = sigBytes (fieldsOf s)
@@ -68,13 +68,13 @@ six-written (Accepted s) out out′ e = (ap (writtenOf (Accepted s)) e, go (ltb 
     go false t q j h =
         let t′ : ltb (length out′) 6 ≡ false = rw e at t in
         simp t′ (List·getD-append sig (drop 6 out) 0 j h ∙ sym (List·getD-append sig (drop 6 out′) 0 j h))
-six-written (Refused r) out out′ e = (refl, λ q j h. let z : _≡_ {A = ℕ} 0 1 = cc in absurd (omega (arith, z)))
+same-six-written (Refused r) out out′ e = (refl, λ q j h. let z : _≡_ {A = ℕ} 0 1 = cc in absurd (omega (arith, z)))
 
 pub same-signal : Signals
 same-signal a a′ out out′ e room =
     subst (λ (b : RawSettings). (writtenOf (checkOf a) (length out) ≡ writtenOf (checkOf b) (length out′))
     × (writtenOf (checkOf a) (length out) ≡ Done → (j : ℕ) → j < 6 → getD (writtenInto (checkOf a) out) j 0 ≡ getD (writtenInto (checkOf b) out′) j 0))
-    e (six-written (checkOf a) out out′ room)
+    e (same-six-written (checkOf a) out out′ room)
 
 -- whole payloads get the same answer of the points call
 same-number : (a : RawSettings) (k : Checked) → checkOf a ≡ k → (p q : List ℕ) (n room room′ : ℕ) → a .length ≤ length p → a .length ≤ length q → room ≡ room′

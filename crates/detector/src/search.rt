@@ -8,13 +8,13 @@ use demapper::point::hear_data;
 use demapper::point::hear_pilot;
 use pilots::pilot::pilot_sign;
 use pilots::pilot::polarity_bit;
+use subcarriers::layout::entry_index;
 use subcarriers::layout::places_of;
-use subcarriers::layout::wide;
 ghost use mathlib.Core.Path.{_≡_};
 ghost use mathlib.Core.Bool.{_&&_};
 ghost use lib.Dec.{eqb, leb};
 ghost use Rattle.detector.specs.Detected.{searchOf};
-ghost use Rattle.detector.specs.Asked.{PlaceAsked, PlaceGiven, PlaceHeard, SymbolAsked, BitsShown};
+ghost use Rattle.detector.specs.Asked.{HearPlaceAsked, PlaceGiven, PlaceHeard, SymbolBitsAsked, BitsShown};
 
 // Every point is one the rules give, or the first that is not: its stream and its place among the used subcarriers.
 pub enum Search {
@@ -43,7 +43,7 @@ fn hear_place(
     i: usize,
     f: usize,
 ) -> bool
-    requires { ⌜ PlaceAsked (now bits) (now points) (now levels) (now labels) (now uses) plan s polarity n i f ⌝ }
+    requires { ⌜ HearPlaceAsked (now bits) (now points) (now levels) (now labels) (now uses) plan s polarity n i f ⌝ }
     ensures { λ r. ⌜ PlaceGiven plan (now (points .entry)) polarity n i f r × PlaceHeard plan (now (points .entry)) i f (now (bits .entry)) (now (bits .exit)) ⌝ }
 {
     let floats = 2 * places_of(plan.width);
@@ -51,7 +51,7 @@ fn hear_place(
     let x = points[at];
     let y = points[at + 1];
     let turned = is_turned(plan.width, f);
-    let used = wide(uses[f]);
+    let used = entry_index(uses[f]);
     if used < 128 {
         let to = i * plan.block + used * plan.bits;
         return hear_data(bits, to, levels, labels, plan.bits, s, turned, x, y);
@@ -62,7 +62,7 @@ fn hear_place(
 
 // The label bits of all streams, stream i's block from i·block on, or the first point that is none the rules give.
 pub fn symbol_bits(bits: &mut [u8], points: &[f32], plan: Plan, format: usize, n: usize) -> Search
-    requires { ⌜ SymbolAsked (now bits) (now points) plan n ⌝ }
+    requires { ⌜ SymbolBitsAsked (now bits) (now points) plan n ⌝ }
     ensures { λ r. ⌜ r ≡ searchOf plan (now (points .entry)) format n ⌝ }
     ensures { λ r. ⌜ BitsShown plan (now (points .entry)) r (now (bits .entry)) (now (bits .exit)) ⌝ }
 {

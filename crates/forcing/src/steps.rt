@@ -2,7 +2,7 @@
 ghost use mathlib.Core.Path.{_≡_};
 ghost use Prim.Native.Nat.{_+_, _-_, _%_, _<_, _≤_};
 ghost use lib.ListN.{getD};
-ghost use Rattle.chain.specs.Decoder.{historyA, historyB, pushed};
+ghost use Rattle.chain.specs.Decoder.{historyA, historyB, historyWith};
 ghost use Rattle.forcing.specs.Asked.{StepAsked, StepDone, Part, GroupAsked, EncoderAsked, EncoderDone};
 
 // The sum at place m of a pattern, after a history, with b for the input.
@@ -20,7 +20,7 @@ fn sum_after(m: usize, history: u8, b: u8) -> u8
 // The history after one input more.
 fn push(history: u8, b: u8) -> u8
     requires { ⌜ (history < 64) × (b < 2) ⌝ }
-    ensures { λ r. ⌜ (r ≡ pushed history b) × (r < 64) ⌝ }
+    ensures { λ r. ⌜ (r ≡ historyWith history b) × (r < 64) ⌝ }
 {
     (2 * history + b) % 64
 }

@@ -26,7 +26,7 @@ use Rattle.subcarriers.specs.Subcarriers.{placesOf}
 use Rattle.modulator.specs.Symbol.{streamFloats, symbolFloat}
 use Rattle.modulator.specs.Asked.{halvesIn, SymbolAsked}
 use Rattle.modulator.proofs.SymbolLaws.{symbol-ext}
-use Rattle.frame.specs.Points.{labelsOf, pointFloat, floatsOf, pointsOf, intoBy, pointsInto}
+use Rattle.frame.specs.Points.{labelsOf, pointFloat, floatsOf, pointsOf, pointsIntoBy, pointsInto}
 use Rattle.frame.specs.Asked.{LabelsHeld, WriteAsked}
 use Rattle.frame.specs.declared.points.PointsAnswer.{PointsAnswer}
 use Rattle.frame.specs.declared.points.PointsAnswer.the-variants.{Written, Refused as PointsRefused}
@@ -70,7 +70,7 @@ module _ (s : Settings) (payload : List ℕ) (symbol : ℕ) (out : List Float) w
   pub points-by : (x : Checked) (short past small : Bool) → x ≡ Accepted s
       → ltb (length payload) (s .length) ≡ short → leb (symbolsOf s) symbol ≡ past → ltb (length out) (floatsOf s) ≡ small
       → (answer short past small ≡ pointsOf x (length payload) symbol (length out))
-      × (intoBy (answer short past small) (pointFloat s payload symbol) out ≡ pointsInto x payload symbol out)
+      × (pointsIntoBy (answer short past small) (pointFloat s payload symbol) out ≡ pointsInto x payload symbol out)
   points-by x short past small e f g h = rw e (simp (f, g, h), simp (f, g, h))
 
   -- with the floats written

@@ -19,8 +19,8 @@ use Rattle.symbols.specs.Symbols.{symbolsOf}
 use Rattle.settings.proofs.Refusals.{settingsRules, after-settings}
 use Rattle.frame.specs.declared.points.PointsAnswer.{PointsAnswer}
 use Rattle.frame.specs.declared.points.PointsAnswer.the-variants.{Written, Refused as PointsRefused}
-use Rattle.frame.specs.Points.{floatsOf, pointsOf, intoBy, floatsIn, pointsInto, pointsNumber}
-use Rattle.frame.specs.Statements.{SourceRow, SymbolRow, RoomRow, PointsRefusals}
+use Rattle.frame.specs.Points.{floatsOf, pointsOf, pointsIntoBy, floatsIn, pointsInto, pointsNumber}
+use Rattle.frame.specs.Statements.{PayloadRow, SymbolRow, PointsRoomRow, PointsRefusals}
 
 -- a test of ≤ says it
 pub at-most : (a b : ℕ) → (leb a b ≡ true) ↔ (a ≤ b)
@@ -29,13 +29,13 @@ at-most a b = (leb-true a b, le-leb a b)
 -- the rows after those of the settings, each with its test
 module _ (a : RawSettings) where
   abbrev pub sourceRule : ℕ → Rule
-  sourceRule bytes = record { number = 6; Applies = SourceRow a bytes; test = ltb bytes (a .length); right = less bytes (a .length) }
+  sourceRule bytes = record { number = 6; Applies = PayloadRow a bytes; test = ltb bytes (a .length); right = less bytes (a .length) }
 
   abbrev symbolRule : ℕ → Rule
   symbolRule symbol = record { number = 7; Applies = SymbolRow a symbol; test = leb (symbolsOf (settingsOf a)) symbol; right = at-most (symbolsOf (settingsOf a)) symbol }
 
   abbrev roomRule : ℕ → Rule
-  roomRule room = record { number = 8; Applies = RoomRow a room; test = ltb room (floatsOf (settingsOf a)); right = less room (floatsOf (settingsOf a)) }
+  roomRule room = record { number = 8; Applies = PointsRoomRow a room; test = ltb room (floatsOf (settingsOf a)); right = less room (floatsOf (settingsOf a)) }
 
   -- in document 01's order
   abbrev pointsRules : (bytes symbol room : ℕ) → List Rule
@@ -61,6 +61,6 @@ pub refused-points-unchanged : (a : RawSettings) (payload : List ℕ) (symbol : 
     → (pointsNumber (pointsOf (checkOf a) (length payload) symbol (length out)) ≡ 0 → ⊥) → pointsInto (checkOf a) payload symbol out ≡ out
 refused-points-unchanged a payload symbol out = go (pointsOf (checkOf a) (length payload) symbol (length out))
   where
-    go : (x : PointsAnswer) → (pointsNumber x ≡ 0 → ⊥) → intoBy x (floatsIn (checkOf a) payload symbol) out ≡ out
+    go : (x : PointsAnswer) → (pointsNumber x ≡ 0 → ⊥) → pointsIntoBy x (floatsIn (checkOf a) payload symbol) out ≡ out
     go (Written count) n = absurd (n refl)
     go (PointsRefused r) n = refl

@@ -42,9 +42,9 @@ pointsOf (Accepted s) bytes symbol room =
 pointsOf (Refused r) bytes symbol room = PointsRefused r
 
 -- the lent floats where an answer was given: those of the symbol and the rest as they were, or on a refusal all as they were
-abbrev pub intoBy : PointsAnswer → (symbol : ℕ → Float) → List Float → List Float
-intoBy (Written count) symbol out = firsts symbol count ++ drop count out
-intoBy (PointsRefused r) symbol out = out
+abbrev pub pointsIntoBy : PointsAnswer → (symbol : ℕ → Float) → List Float → List Float
+pointsIntoBy (Written count) symbol out = firsts symbol count ++ drop count out
+pointsIntoBy (PointsRefused r) symbol out = out
 
 -- the floats of the frame's symbol; a refused frame has none, and what stands for them is never written
 abbrev pub floatsIn : Checked → (payload : List ℕ) (symbol g : ℕ) → Float
@@ -53,7 +53,7 @@ floatsIn (Refused r) payload symbol g = nan
 
 abbrev pub pointsInto : Checked → (payload : List ℕ) (symbol : ℕ) → List Float → List Float
 pointsInto checked payload symbol out =
-    intoBy (pointsOf checked (length payload) symbol (length out)) (floatsIn checked payload symbol) out
+    pointsIntoBy (pointsOf checked (length payload) symbol (length out)) (floatsIn checked payload symbol) out
 
 -- document 01's number of each case, 0 where the points are written
 abbrev pub pointsNumber : PointsAnswer → ℕ

@@ -1,7 +1,7 @@
 // The reading of a whole frame as C callers see it: the seed, or the refusal's number negated.
 use crate::read::read_frame;
+use conversions::byte_number;
 use conversions::refused;
-use conversions::wide;
 use frame_steps::steps::FrameAnswer;
 use reader_state::state::OpenSettings;
 use settings::settings::Refusal;
@@ -15,7 +15,7 @@ pub fn read_frame_call(settings: OpenSettings, points: &[f32], payload: &mut [u8
     ensures { λ _. ⌜ now (payload .exit) ≡ readFrameInto settings (now (points .entry)) (now (payload .entry)) ⌝ }
 {
     match read_frame(settings, points, payload) {
-        FrameAnswer::Read(seed) => wide(seed) as i64,
+        FrameAnswer::Read(seed) => byte_number(seed) as i64,
         FrameAnswer::BadPoint(_, _, _) => refused(Refusal::Point),
         FrameAnswer::BadSymbol(_, r) => refused(r),
         FrameAnswer::Refused(r) => refused(r),

@@ -18,7 +18,7 @@ use Rattle.signal.proofs.HtSigLaws.{rest-stays, six-length}
 use Rattle.parsing.specs.declared.numbers.Parsed.{Parsed}
 use Rattle.parsing.specs.declared.numbers.Parsed.the-variants.{Numbers, Malformed}
 use Rattle.text.specs.declared.printing.Row.{Row}
-use Rattle.parsing.specs.Parsing.{parsedOf, Small}
+use Rattle.parsing.specs.Parsing.{parsedOf, FiveDigits}
 use Rattle.text.specs.Printing.{rowHolding, emptyRow, pushed, pushedAll, decimal, hexBytes}
 use Rattle.listing.specs.Rows.{rawFor, inputsText, refusedWord, refusedText, acceptedText, answerText, rowFor, malformedText, rowBy, rowOf, zeros}
 use Rattle.text.proofs.Decimals.{decimal-short}
@@ -63,8 +63,8 @@ count-small a k = by (checkOf a) refl
         omega (arith, symbols-few s (right a s p))
     by (Refused r) p e = let z : _≡_ {A = ℕ} 0 1 = cc in absurd (omega arith)
 
-pub six-written : (x : Checked) (sig : List ℕ) → sig ≡ writtenInto x zeros → length sig ≡ 6
-six-written x sig e = ap length e ∙ rest-stays x zeros .1
+pub six-bytes : (x : Checked) (sig : List ℕ) → sig ≡ writtenInto x zeros → length sig ≡ 6
+six-bytes x sig e = ap length e ∙ rest-stays x zeros .1
 
 accepted-answer : (x : Checked) (k : ℕ) → Symbols k ≡ countOf x → acceptedText k (writtenInto x zeros) ≡ answerText x
 accepted-answer (Accepted s) k e =
@@ -130,5 +130,5 @@ module _ (l : List ℕ) (p : Parsed) (r : Row) (ep : p ≡ parsedOf l) where
   pub row-malformed : p ≡ Malformed → r ≡ pushedAll emptyRow malformedText → r ≡ rowHolding (rowOf l)
   row-malformed k e = row-held (e ∙ ap (λ (x : Parsed). pushedAll emptyRow (rowBy x)) (sym k))
 
-pub small-numbers : (p : Parsed) (m w n : ℕ) → Small p → p ≡ Numbers m w n → (m < 100000) × ((w < 100000) × (n < 100000))
-small-numbers p m w n s e = subst Small e s
+pub small-numbers : (p : Parsed) (m w n : ℕ) → FiveDigits p → p ≡ Numbers m w n → (m < 100000) × ((w < 100000) × (n < 100000))
+small-numbers p m w n s e = subst FiveDigits e s

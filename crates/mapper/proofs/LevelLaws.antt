@@ -81,8 +81,8 @@ pub neg-told : (a b : ℤ) → negℤ a ≡ negℤ b → a ≡ b
 neg-told a b e = sym (negℤ-negℤ a) ∙ ap negℤ e ∙ negℤ-negℤ b
 
 -- two floats of the format with one bit pattern are equal
-pub same-bits : (a b : Float) → T (fits binary32 a) → T (fits binary32 b) → toBits binary32 a ≡ toBits binary32 b → a ≡ b
-same-bits a b fa fb e = sym (ofBits-toBits binary32 a fa) ∙ ap (ofBits binary32) e ∙ ofBits-toBits binary32 b fb
+pub same-float-bits : (a b : Float) → T (fits binary32 a) → T (fits binary32 b) → toBits binary32 a ≡ toBits binary32 b → a ≡ b
+same-float-bits a b fa fb e = sym (ofBits-toBits binary32 a fa) ∙ ap (ofBits binary32) e ∙ ofBits-toBits binary32 b fb
 
 -- what holds at -8 .. 7 holds at every whole number below 8 in size
 at-small : (P : ℤ → Type 0) → ((n : ℕ) → n < 8 → P (pos n) × P (negsuc n)) → (z : ℤ) → natAbs z < 8 → P z
@@ -106,7 +106,7 @@ whole-back z h = counted-same (toSigned 3 (whole z)) z (at-small (λ (y : ℤ). 
 -- two small whole numbers whose floats have the same bits are equal
 pub whole-told : (a b : ℤ) → natAbs a < 8 → natAbs b < 8 → toBits binary32 (whole a) ≡ toBits binary32 (whole b) → a ≡ b
 whole-told a b h k e =
-    sym (whole-back a h) ∙ ap (toSigned 3) (same-bits (whole a) (whole b) (ofInt-fits binary32 a) (ofInt-fits binary32 b) e) ∙ whole-back b k
+    sym (whole-back a h) ∙ ap (toSigned 3) (same-float-bits (whole a) (whole b) (ofInt-fits binary32 a) (ofInt-fits binary32 b) e) ∙ whole-back b k
 
 abbrev turnAt : ℤ → Claim
 turnAt z = toBits binary32 (sub binary32 (whole (pos 0)) (whole z)) is toBits binary32 (whole (negℤ z))
@@ -121,7 +121,7 @@ turns = sound turnClaim tt
 -- zero less a small whole number is its negative, with zero's sign clear
 pub zero-less : (z : ℤ) → natAbs z < 8 → sub binary32 (whole (pos 0)) (whole z) ≡ whole (negℤ z)
 zero-less z h =
-    same-bits _ _ (sub-fits binary32 (whole (pos 0)) (whole z)) (ofInt-fits binary32 (negℤ z))
+    same-float-bits _ _ (sub-fits binary32 (whole (pos 0)) (whole z)) (ofInt-fits binary32 (negℤ z))
     (at-small (λ (y : ℤ). Holds (turnAt y)) turns z h)
 
 -- the bit patterns of the nine levels

@@ -14,7 +14,7 @@ use Rattle.laws.specs.Stretch.{stretch}
 use Rattle.laws.proofs.Reflect.{and-true, both-true}
 use Rattle.parsing.specs.declared.numbers.Parsed.{Parsed}
 use Rattle.parsing.specs.declared.numbers.Parsed.the-variants.{Numbers, Malformed}
-use Rattle.parsing.specs.Parsing.{isDigit, oneToFive, decimalValue, separatedAt, digitsEnd, valueIn, parsedOf, Small, AllDigits, Number, ThreeNumbers, parsedAt}
+use Rattle.parsing.specs.Parsing.{isDigit, oneToFive, decimalValue, separatedAt, digitsEnd, valueIn, parsedOf, FiveDigits, AllDigits, Number, ThreeNumbers, parsedAt}
 use Rattle.parsing.proofs.Values.{tens-most, value-below}
 
 -- ---- the tests
@@ -255,10 +255,10 @@ number-below {xs} {n} x =
     omega (arith, value-below xs 0 1 (x .digit) (omega arith), tens-most (length xs) (x .most), x .value)
 
 -- the numbers of a parse have at most five digits
-pub parsed-small : (l : List ℕ) → Small (parsedOf l)
+pub parsed-small : (l : List ℕ) → FiveDigits (parsedOf l)
 parsed-small l = by (parsedOf l) refl
   where
-    by : (p : Parsed) → parsedOf l ≡ p → Small p
+    by : (p : Parsed) → parsedOf l ≡ p → FiveDigits p
     by (Numbers m w n) e =
         let t = parsed-three l m w n e in
         (number-below (t .mcs), (number-below (t .width), number-below (t .length)))
@@ -267,20 +267,20 @@ parsed-small l = by (parsedOf l) refl
 -- ---- the ways out of the code
 
 module _ (l : List ℕ) (a : ℕ) (ea : a ≡ digitsEnd l 0) where
-  pub no-first : separatedAt l 0 a ≡ false → (Malformed ≡ parsedOf l) × Small Malformed
+  pub no-first : separatedAt l 0 a ≡ false → (Malformed ≡ parsedOf l) × FiveDigits Malformed
   no-first e = (sym (parsed-at l a _ _ ea refl refl ∙ simp e), tt)
 
   module _ (b : ℕ) (eb : b ≡ digitsEnd l (a + 1)) (first : separatedAt l 0 a ≡ true) where
-    pub no-second : separatedAt l (a + 1) b ≡ false → (Malformed ≡ parsedOf l) × Small Malformed
+    pub no-second : separatedAt l (a + 1) b ≡ false → (Malformed ≡ parsedOf l) × FiveDigits Malformed
     no-second e = (sym (parsed-at l a b _ ea eb refl ∙ simp (first, e)), tt)
 
     module _ (c : ℕ) (ec : c ≡ digitsEnd l (b + 1)) (second : separatedAt l (a + 1) b ≡ true) where
-      pub no-third : (oneToFive (c - (b + 1)) && eqb c (length l)) ≡ false → (Malformed ≡ parsedOf l) × Small Malformed
+      pub no-third : (oneToFive (c - (b + 1)) && eqb c (length l)) ≡ false → (Malformed ≡ parsedOf l) × FiveDigits Malformed
       no-third e = (sym (parsed-at l a b c ea eb ec ∙ simp (first, second, e)), tt)
 
       pub all-three : (x y z : ℕ) → (oneToFive (c - (b + 1)) && eqb c (length l)) ≡ true
           → x ≡ valueIn l 0 a → y ≡ valueIn l (a + 1) b → z ≡ valueIn l (b + 1) c
-          → (Numbers x y z ≡ parsedOf l) × Small (Numbers x y z)
+          → (Numbers x y z ≡ parsedOf l) × FiveDigits (Numbers x y z)
       all-three x y z e ex ey ez =
           let k : parsedOf l ≡ Numbers x y z = parsed-at l a b c ea eb ec ∙ simp (first, second, e, ex, ey, ez) in
-          (sym k, subst Small k (parsed-small l))
+          (sym k, subst FiveDigits k (parsed-small l))

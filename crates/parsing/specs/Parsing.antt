@@ -51,9 +51,9 @@ parsedOf l =
     parsedAt l a b c
 
 -- the numbers of a parse have at most five digits
-abbrev pub Small : Parsed → Type 0
-Small (Numbers m w n) = (m < 100000) × ((w < 100000) × (n < 100000))
-Small Malformed = Unit {0}
+abbrev pub FiveDigits : Parsed → Type 0
+FiveDigits (Numbers m w n) = (m < 100000) × ((w < 100000) × (n < 100000))
+FiveDigits Malformed = Unit {0}
 
 -- ---- the grammar, in the paper's words
 

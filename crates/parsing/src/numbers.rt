@@ -3,7 +3,7 @@ ghost use mathlib.Core.Path.{_≡_};
 ghost use Prim.Native.Nat.{_+_, _-_, _≤_};
 ghost use lib.ListN.{length, take, drop};
 ghost use Rattle.laws.specs.Stretch.{stretch};
-ghost use Rattle.parsing.specs.Parsing.{isDigit, oneToFive, separatedAt, decimalValue, parsedOf, Small};
+ghost use Rattle.parsing.specs.Parsing.{isDigit, oneToFive, separatedAt, decimalValue, parsedOf, FiveDigits};
 
 pub enum Parsed {
     Numbers(u64, u64, u64),
@@ -77,7 +77,7 @@ fn separated(line: &[u8], from: usize, to: usize) -> bool
 
 // The public parse: three numbers of one to five digits with one space between, or malformed.
 pub fn parse(line: &[u8]) -> Parsed
-    ensures { λ r. ⌜ (r ≡ parsedOf (now (line .entry))) × Small r ⌝ }
+    ensures { λ r. ⌜ (r ≡ parsedOf (now (line .entry))) × FiveDigits r ⌝ }
 {
     let a = digits_end(line, 0);
     let first = separated(line, 0, a);

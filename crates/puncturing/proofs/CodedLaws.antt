@@ -38,9 +38,9 @@ pub place-few : (half e s : ℕ) → half < 2 → e ≤ 2 → s < 2592 → half 
 place-few half e s b h l = omega (arith, product-few e s h l)
 
 -- a place is that of the kept bit's step, and 2160 more for sum B
-pub place-is : (q e y : ℕ) → sumPlace q e y ≡ 2160 * (y % q % 2) + e * keptStep q y
+pub sum-place-is : (q e y : ℕ) → sumPlace q e y ≡ 2160 * (y % q % 2) + e * keptStep q y
 unfolding keptStep
-place-is q e y = refl
+sum-place-is q e y = refl
 
 module _ (line : ℕ → ℕ) (e q g : ℕ) (rate : T (among keptCounts q))
     (bits : (i : ℕ) → i < e * ((q - 1) * g) + 6 * e → line i < 2) (j y : ℕ) (mine : j < e) (few : y < q * g) where
@@ -60,11 +60,11 @@ module _ (line : ℕ → ℕ) (e q g : ℕ) (rate : T (among keptCounts q))
   sum-kept {sums = sums} s =
       elim (ℕ-discrete (y % q % 2) 0) [
         | yes h ↦
-            let p : sumPlace q e y + j ≡ e * keptStep q y + j = omega (arith, place-is q e y) in
+            let p : sumPlace q e y + j ≡ e * keptStep q y + j = omega (arith, sum-place-is q e y) in
             ap (λ (i : ℕ). getD sums i 0) p ∙ s .a-done _ input-few ∙ xor-a line e j (keptStep q y) tap-bit
             ∙ sym (kept-form (lineTap line e j) q y rate ∙ rw (eq-eqb (y % q % 2) 0 h))
         | no h ↦
-            let p : sumPlace q e y + j ≡ 2160 + (e * keptStep q y + j) = omega (arith, place-is q e y) in
+            let p : sumPlace q e y + j ≡ 2160 + (e * keptStep q y + j) = omega (arith, sum-place-is q e y) in
             ap (λ (i : ℕ). getD sums i 0) p ∙ s .b-done _ input-few ∙ xor-b line e j (keptStep q y) tap-bit
             ∙ sym (kept-form (lineTap line e j) q y rate ∙ rw (ne-eqb (y % q % 2) 0 h))
       ]
@@ -104,7 +104,7 @@ module _ (coded line : List ℕ) (e q g : ℕ) (asked : CodedAsked coded line e 
   pub place-inside : {d places : List ℕ} → Filled 0 0 (λ y. sumPlace q e y) (q * g) d places → (j : ℕ) → j < e
       → (y : ℕ) → y < q * g → getD places y 0 + j < 4320
   place-inside f j mine y l =
-      omega (arith, fill-at 0 (λ y. sumPlace q e y) f y l, place-is q e y, input-few bitAt e q g (asked .rate) (asked .bits) j y mine l)
+      omega (arith, fill-at 0 (λ y. sumPlace q e y) f y l, sum-place-is q e y, input-few bitAt e q g (asked .rate) (asked .bits) j y mine l)
 
   -- what the bits picked for encoder j are
   pub picked : {s sums d places before after : List ℕ} → Sums bitAt e (e * ((q - 1) * g)) s sums

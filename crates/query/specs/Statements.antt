@@ -17,7 +17,7 @@ use Rattle.settings.specs.Settings.{checkOf, settingsOf, planFor, Right}
 use Rattle.settings.specs.Statements.{NoSettingsRow, SettingsRows}
 use Rattle.modulator.specs.Symbol.{streamFloats}
 use Rattle.frame.specs.Points.{pointFloat}
-use Rattle.frame.specs.Statements.{SourceRow, SymbolRow}
+use Rattle.frame.specs.Statements.{PayloadRow, SymbolRow}
 use Rattle.query.specs.Query.{carriedOf, queryOf, queryNumber, carriedPoint}
 
 -- ---- refusals: "given exactly when" its row applies and none tested before it does; 0 where none applies
@@ -34,13 +34,13 @@ PlaceRow a symbol stream z = SymbolRow a symbol ⊎ ((planFor (settingsOf a) .st
 abbrev pub QueryRefusals : Type 0
 QueryRefusals = (a : RawSettings) (payload : List ℕ) (symbol stream : ℕ) (z : ℤ) → let n = queryNumber (queryOf (checkOf a) payload symbol stream z) in
     SettingsRows a n
-    (((n ≡ 6) ↔ (SourceRow a (length payload) × NoSettingsRow a (Unit {0})))
-    × (((n ≡ 7) ↔ (PlaceRow a symbol stream z × NoSettingsRow a ((SourceRow a (length payload) → ⊥) × Unit {0})))
-    × ((n ≡ 0) ↔ NoSettingsRow a ((SourceRow a (length payload) → ⊥) × ((PlaceRow a symbol stream z → ⊥) × Unit {0})))))
+    (((n ≡ 6) ↔ (PayloadRow a (length payload) × NoSettingsRow a (Unit {0})))
+    × (((n ≡ 7) ↔ (PlaceRow a symbol stream z × NoSettingsRow a ((PayloadRow a (length payload) → ⊥) × Unit {0})))
+    × ((n ≡ 0) ↔ NoSettingsRow a ((PayloadRow a (length payload) → ⊥) × ((PlaceRow a symbol stream z → ⊥) × Unit {0})))))
 
 -- ---- the two calls are of one symbol: the floats at a place are the question's answer for its subcarrier, turned by step 8
 
-pub record PlaceTied (s : Settings) (payload : List ℕ) (n i f : ℕ) : Type 0 where
+pub record SubcarrierTied (s : Settings) (payload : List ℕ) (n i f : ℕ) : Type 0 where
   pub level : Levels
   pub answered : carriedPoint (carriedOf s payload n i (subcarrierAt (s .width) f)) ≡ pointOf level
   pub first-float : pointFloat s payload n (i * streamFloats (s .width) + 2 * f)
@@ -49,4 +49,4 @@ pub record PlaceTied (s : Settings) (payload : List ℕ) (n i f : ℕ) : Type 0 
       ≡ whole (cond (upper (s .width) (subcarrierAt (s .width) f)) (turned level) level .second)
 
 abbrev pub PointsTied : Type 0
-PointsTied = (s : Settings) → Right s → (payload : List ℕ) (n i f : ℕ) → i < planFor s .streams → f < placesOf (s .width) → PlaceTied s payload n i f
+PointsTied = (s : Settings) → Right s → (payload : List ℕ) (n i f : ℕ) → i < planFor s .streams → f < placesOf (s .width) → SubcarrierTied s payload n i f

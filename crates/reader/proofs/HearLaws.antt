@@ -30,18 +30,18 @@ use Rattle.frame.specs.Points.{floatsOf}
 use Rattle.detector.specs.declared.search.Search.{Search}
 use Rattle.detector.specs.declared.search.Search.the-variants.{AllGiven, At}
 use Rattle.detector.specs.Detected.{searchOf, shownBit, failsAt}
-use Rattle.detector.specs.Asked.{BitsShown, SymbolAsked as SymbolBitsAsked}
-use Rattle.decoder.specs.Decoded.{historyMoved, SymbolAsked}
-use Rattle.deinterleaver.specs.Deinterleaved.{bitsIn}
+use Rattle.detector.specs.Asked.{BitsShown, SymbolBitsAsked}
+use Rattle.decoder.specs.Decoded.{historyMoved, SymbolInputsAsked}
+use Rattle.deinterleaver.specs.Deinterleaved.{labelBitIn}
 use Rattle.decoder.proofs.ExtLaws.{decoded-ext, decodes-ext, moved-ext}
 use Rattle.reader_state.specs.declared.state.Reader.{Reader}
 use Rattle.acceptance.specs.declared.accept.StepAnswer.the-variants.{BadPoint, Refused as StepRefused}
 use Rattle.acceptance.specs.declared.accept.Stepped.{Stepped}
 use Rattle.reader_state.specs.State.{InRange, openRaw, historyOf, closedOf, endedOf}
-use Rattle.acceptance.specs.Accepted.{answered, bytesInto, intoBy, byFrame}
+use Rattle.acceptance.specs.Accepted.{answered, bytesInto, stepIntoBy, byFrame}
 use Rattle.reader.specs.Step.{historiesAfter, heardInput, byCode, bySearch, noRoom, stepBy, stepOf, writtenBy, stepInto}
-use Rattle.acceptance.specs.Asked.{bitsOf, HeardInputs, FrameAsked}
-use Rattle.reader.specs.Asked.{LabelsAsked, PointsAsked}
+use Rattle.acceptance.specs.Asked.{bitNumbered, HeardInputs, HearInputsAsked}
+use Rattle.reader.specs.Asked.{HearBitsAsked, PointsAsked}
 use Rattle.chain.proofs.DecodeLaws.{decoded-bit}
 use Rattle.reader_state.proofs.StateLaws.{symbol-few}
 use Rattle.acceptance.proofs.AcceptedLaws.{into-ext, frame-by}
@@ -62,11 +62,11 @@ module _ (s : Settings) (right : Right s) (st : Reader) where
   -- 10 is not, and the inputs that were decoded stand in a list
   module _ (lab : ℕ → ℕ → ℕ) (inputs : List ℕ) (filled : (d : ℕ) → d < planFor s .dbps → getD inputs d 0 ≡ heardInput s st lab d) where
     pub bits-heard : (histories : List ℕ) (r : Stepped) (payload₀ payload : List ℕ) → decodes (planFor s) (historyOf st) lab ≡ true
-        → histories ≡ historiesAfter s st (heardInput s st lab) → HeardInputs s st (bitsOf inputs) histories r payload₀ payload
-        → (r ≡ byCode s st lab) × (payload ≡ intoBy (r .answer) (bytesInto s st (heardInput s st lab) payload₀) payload₀)
+        → histories ≡ historiesAfter s st (heardInput s st lab) → HeardInputs s st (bitNumbered inputs) histories r payload₀ payload
+        → (r ≡ byCode s st lab) × (payload ≡ stepIntoBy (r .answer) (bytesInto s st (heardInput s st lab) payload₀) payload₀)
     bits-heard histories r payload₀ payload e f h = (
-      h .stepped ∙ frame-by s right st (bitsOf inputs) (heardInput s st lab) filled histories ∙ ap (byFrame s st (heardInput s st lab)) f ∙ simp e,
-      h .written ∙ ap (λ (w : List ℕ). intoBy (r .answer) w payload₀) (into-ext s right st (bitsOf inputs) (heardInput s st lab) filled payload₀),
+      h .stepped ∙ frame-by s right st (bitNumbered inputs) (heardInput s st lab) filled histories ∙ ap (byFrame s st (heardInput s st lab)) f ∙ simp e,
+      h .written ∙ ap (λ (w : List ℕ). stepIntoBy (r .answer) w payload₀) (into-ext s right st (bitNumbered inputs) (heardInput s st lab) filled payload₀),
     )
 
   -- by the symbol's own label bits
@@ -94,14 +94,14 @@ module _ (s : Settings) (right : Right s) (st : Reader) where
   -- the search found none
   pub points-heard : (points : List Float) (found : Search) (bits₀ bits : List ℕ) (r : Stepped) (payload₀ payload : List ℕ) → found ≡ AllGiven
       → found ≡ searchOf (planFor s) points (s .format) (st .symbol) → BitsShown (planFor s) points found bits₀ bits
-      → (r ≡ byCode s st (bitsIn (planFor s) bits))
-      × (payload ≡ intoBy (r .answer) (bytesInto s st (heardInput s st (bitsIn (planFor s) bits)) payload₀) payload₀)
+      → (r ≡ byCode s st (labelBitIn (planFor s) bits))
+      × (payload ≡ stepIntoBy (r .answer) (bytesInto s st (heardInput s st (labelBitIn (planFor s) bits)) payload₀) payload₀)
       → (r ≡ bySearch (searchOf (planFor s) points (s .format) (st .symbol)) s st points)
-      × (payload ≡ intoBy (r .answer) (bytesInto s st (heardInput s st (shownBit (planFor s) points)) payload₀) payload₀)
+      × (payload ≡ stepIntoBy (r .answer) (bytesInto s st (heardInput s st (shownBit (planFor s) points)) payload₀) payload₀)
   points-heard points found bits₀ bits r payload₀ payload e g shown h =
       let same = shown .shown e in (
-        h .0 ∙ code-by (bitsIn (planFor s) bits) (shownBit (planFor s) points) same ∙ ap (λ (x : Search). bySearch x s st points) (sym e ∙ g),
-        h .1 ∙ ap (λ (w : List ℕ). intoBy (r .answer) w payload₀) (into-by (bitsIn (planFor s) bits) (shownBit (planFor s) points) same payload₀),
+        h .0 ∙ code-by (labelBitIn (planFor s) bits) (shownBit (planFor s) points) same ∙ ap (λ (x : Search). bySearch x s st points) (sym e ∙ g),
+        h .1 ∙ ap (λ (w : List ℕ). stepIntoBy (r .answer) w payload₀) (into-by (labelBitIn (planFor s) bits) (shownBit (planFor s) points) same payload₀),
       )
 
 -- ---- the calls by their tests
@@ -109,13 +109,13 @@ module _ (s : Settings) (right : Right s) (st : Reader) where
 -- by the settings' answer
 module _ (st : Reader) (points : List Float) (payload : List ℕ) (x : Checked) (known : x ≡ checkOf (openRaw (st .settings))) where
   pub step-as : (r : Stepped) (payload′ : List ℕ) → r ≡ stepBy x st points (length payload)
-      → payload′ ≡ intoBy (r .answer) (writtenBy x st points payload) payload
+      → payload′ ≡ stepIntoBy (r .answer) (writtenBy x st points payload) payload
       → (r ≡ stepOf st points (length payload)) × (payload′ ≡ stepInto st points payload)
   step-as r payload′ e w =
       let f : r ≡ stepOf st points (length payload) = e ∙ ap (λ (y : Checked). stepBy y st points (length payload)) known in (
         f,
-        w ∙ ap (λ (y : Checked). intoBy (r .answer) (writtenBy y st points payload) payload) known
-            ∙ ap (λ (q : Stepped). intoBy (q .answer) (writtenBy (checkOf (openRaw (st .settings))) st points payload) payload) f,
+        w ∙ ap (λ (y : Checked). stepIntoBy (r .answer) (writtenBy y st points payload) payload) known
+            ∙ ap (λ (q : Stepped). stepIntoBy (q .answer) (writtenBy (checkOf (openRaw (st .settings))) st points payload) payload) f,
       )
 
 -- by the tests of the state and of the room
@@ -143,8 +143,8 @@ six-bits histories h h′ (suc zero) l = h′
 six-bits histories h h′ (suc (suc j)) l = absurd (omega arith)
 
 module _ (s : Settings) (st : Reader) (p : Plan) (plan : p ≡ planFor s) where
-  pub inputs-asked : (inputs bits payload : List ℕ) → LabelsAsked s st bits payload → 2160 ≤ length inputs
-      → SymbolAsked inputs bits (st .histories) p
+  pub inputs-asked : (inputs bits payload : List ℕ) → HearBitsAsked s st bits payload → 2160 ≤ length inputs
+      → SymbolInputsAsked inputs bits (st .histories) p
   inputs-asked inputs bits payload a room =
       let fits = plan-fits s (a .right) in
       rw plan (record {
@@ -156,34 +156,34 @@ module _ (s : Settings) (st : Reader) (p : Plan) (plan : p ≡ planFor s) where
       })
 
   -- the inputs that were decoded, by their definition
-  module _ (bits inputs₀ inputs : List ℕ) (filled : Filled 0 0 (decodedInput p (historyOf st) (bitsIn p bits)) (p .dbps) inputs₀ inputs) where
-    pub inputs-at : (d : ℕ) → d < planFor s .dbps → getD inputs d 0 ≡ heardInput s st (bitsIn (planFor s) bits) d
+  module _ (bits inputs₀ inputs : List ℕ) (filled : Filled 0 0 (decodedInput p (historyOf st) (labelBitIn p bits)) (p .dbps) inputs₀ inputs) where
+    pub inputs-at : (d : ℕ) → d < planFor s .dbps → getD inputs d 0 ≡ heardInput s st (labelBitIn (planFor s) bits) d
     inputs-at d l =
-        fill-at 0 (decodedInput p (historyOf st) (bitsIn p bits)) filled d (rw plan l)
-        ∙ ap (λ (q : Plan). decodedInput q (historyOf st) (bitsIn q bits) d) plan
+        fill-at 0 (decodedInput p (historyOf st) (labelBitIn p bits)) filled d (rw plan l)
+        ∙ ap (λ (q : Plan). decodedInput q (historyOf st) (labelBitIn q bits) d) plan
 
-    pub frame-asked : (payload : List ℕ) → LabelsAsked s st bits payload → 2160 ≤ length inputs → FrameAsked s st inputs payload
+    pub frame-asked : (payload : List ℕ) → HearBitsAsked s st bits payload → 2160 ≤ length inputs → HearInputsAsked s st inputs payload
     frame-asked payload a room = record {
       held = record {
         right = a .right;
         in-range = a .in-range;
         whole-inputs = omega (arith, plan-fits s (a .right) .dbps-most, room);
-        one-bit = λ d l. rw (inputs-at d l) (decoded-bit (planFor s) (historyOf st) (bitsIn (planFor s) bits) d);
+        one-bit = λ d l. rw (inputs-at d l) (decoded-bit (planFor s) (historyOf st) (labelBitIn (planFor s) bits) d);
       };
       whole-payload = a .whole-payload;
     }
 
-  pub sound-by : (bits : List ℕ) (t : Bool) → t ≡ decodes p (historyOf st) (bitsIn p bits)
-      → t ≡ decodes (planFor s) (historyOf st) (bitsIn (planFor s) bits)
-  sound-by bits t e = e ∙ ap (λ (q : Plan). decodes q (historyOf st) (bitsIn q bits)) plan
+  pub sound-by : (bits : List ℕ) (t : Bool) → t ≡ decodes p (historyOf st) (labelBitIn p bits)
+      → t ≡ decodes (planFor s) (historyOf st) (labelBitIn (planFor s) bits)
+  sound-by bits t e = e ∙ ap (λ (q : Plan). decodes q (historyOf st) (labelBitIn q bits)) plan
 
   pub after-by : (bits histories : List ℕ)
-      → histories ≡ historyMoved p (historyOf st) (decodedInput p (historyOf st) (bitsIn p bits)) 0
-      ∷ (historyMoved p (historyOf st) (decodedInput p (historyOf st) (bitsIn p bits)) 1 ∷ [])
-      → histories ≡ historiesAfter s st (heardInput s st (bitsIn (planFor s) bits))
+      → histories ≡ historyMoved p (historyOf st) (decodedInput p (historyOf st) (labelBitIn p bits)) 0
+      ∷ (historyMoved p (historyOf st) (decodedInput p (historyOf st) (labelBitIn p bits)) 1 ∷ [])
+      → histories ≡ historiesAfter s st (heardInput s st (labelBitIn (planFor s) bits))
   after-by bits histories e =
-      e ∙ ap (λ (q : Plan). historyMoved q (historyOf st) (decodedInput q (historyOf st) (bitsIn q bits)) 0
-      ∷ (historyMoved q (historyOf st) (decodedInput q (historyOf st) (bitsIn q bits)) 1 ∷ [])) plan
+      e ∙ ap (λ (q : Plan). historyMoved q (historyOf st) (decodedInput q (historyOf st) (labelBitIn q bits)) 0
+      ∷ (historyMoved q (historyOf st) (decodedInput q (historyOf st) (labelBitIn q bits)) 1 ∷ [])) plan
 
   pub points-asked : (bits : List ℕ) (points : List Float) → Right s → InRange s st → floatsOf s ≤ length points → 2592 ≤ length bits
       → SymbolBitsAsked bits points p (st .symbol)
@@ -205,7 +205,7 @@ module _ (s : Settings) (st : Reader) (p : Plan) (plan : p ≡ planFor s) where
   shown-by points found bits₀ bits = subst (λ (q : Plan). BitsShown q points found bits₀ bits) plan
 
   pub labels-asked : (bits₀ bits : List ℕ) (points : List Float) (found : Search) (payload : List ℕ) → PointsAsked s st points payload → 2592 ≤ length bits₀
-      → T (every (λ (x : ℕ). ltb x 2) bits₀) → BitsShown p points found bits₀ bits → LabelsAsked s st bits payload
+      → T (every (λ (x : ℕ). ltb x 2) bits₀) → BitsShown p points found bits₀ bits → HearBitsAsked s st bits payload
   labels-asked bits₀ bits points found payload a room blank shown =
       let fits = plan-fits s (a .right) in
       record {

@@ -9,7 +9,7 @@ use Rattle.frame.specs.Points.{floatsOf}
 use Rattle.reader_state.specs.declared.state.Reader.{Reader}
 use Rattle.reader_state.specs.State.{InRange}
 
-pub record LabelsAsked (s : Settings) (st : Reader) (bits payload : List ℕ) : Type 0 where
+pub record HearBitsAsked (s : Settings) (st : Reader) (bits payload : List ℕ) : Type 0 where
   pub right : Right s
   pub in-range : InRange s st
   pub whole-bits : planFor s .streams * planFor s .block ≤ length bits

@@ -24,7 +24,7 @@ use Rattle.acceptance.specs.declared.accept.StepAnswer.{StepAnswer}
 use Rattle.acceptance.specs.declared.accept.StepAnswer.the-variants.{First, Next, BadPoint, Refused as StepRefused}
 use Rattle.acceptance.specs.declared.accept.Stepped.{Stepped}
 use Rattle.reader_state.specs.State.{openRaw, historyOf, closedOf, endedOf}
-use Rattle.acceptance.specs.Accepted.{answered, bytesInto, intoBy, byFrame}
+use Rattle.acceptance.specs.Accepted.{answered, bytesInto, stepIntoBy, byFrame}
 
 -- ---- from a symbol's label bits on
 
@@ -70,7 +70,7 @@ writtenBy (Refused r) st points payload = payload
 -- the lent payload afterwards
 abbrev pub stepInto : Reader → List Float → List ℕ → List ℕ
 stepInto st points payload =
-    intoBy (stepOf st points (length payload) .answer) (writtenBy (checkOf (openRaw (st .settings))) st points payload) payload
+    stepIntoBy (stepOf st points (length payload) .answer) (writtenBy (checkOf (openRaw (st .settings))) st points payload) payload
 
 -- document 01's number of each case, 0 where the symbol is accepted; the seed and the place of each
 abbrev pub stepNumber : StepAnswer → ℕ

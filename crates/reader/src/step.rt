@@ -20,16 +20,16 @@ ghost use mathlib.Core.Path.{_≡_};
 ghost use lib.ListN.{length};
 ghost use Rattle.settings.specs.Settings.{planFor};
 ghost use Rattle.detector.specs.Detected.{searchOf, shownBit};
-ghost use Rattle.deinterleaver.specs.Deinterleaved.{bitsIn};
-ghost use Rattle.acceptance.specs.Accepted.{bytesInto, intoBy};
+ghost use Rattle.deinterleaver.specs.Deinterleaved.{labelBitIn};
+ghost use Rattle.acceptance.specs.Accepted.{bytesInto, stepIntoBy};
 ghost use Rattle.reader.specs.Step.{byCode, heardInput, bySearch, stepOf, stepInto};
-ghost use Rattle.reader.specs.Asked.{LabelsAsked, PointsAsked};
+ghost use Rattle.reader.specs.Asked.{HearBitsAsked, PointsAsked};
 
 // From the symbol's label bits on: 10, and what the inputs give.
 fn hear_bits(reader: Reader, s: Settings, bits: &[u8], payload: &mut [u8]) -> Stepped
-    requires { ⌜ LabelsAsked s reader (now bits) (now payload) ⌝ }
-    ensures { λ r. ⌜ r ≡ byCode s reader (bitsIn (planFor s) (now (bits .entry))) ⌝ }
-    ensures { λ r. ⌜ now (payload .exit) ≡ intoBy (r .answer) (bytesInto s reader (heardInput s reader (bitsIn (planFor s) (now (bits .entry)))) (now (payload .entry))) (now (payload .entry)) ⌝ }
+    requires { ⌜ HearBitsAsked s reader (now bits) (now payload) ⌝ }
+    ensures { λ r. ⌜ r ≡ byCode s reader (labelBitIn (planFor s) (now (bits .entry))) ⌝ }
+    ensures { λ r. ⌜ now (payload .exit) ≡ stepIntoBy (r .answer) (bytesInto s reader (heardInput s reader (labelBitIn (planFor s) (now (bits .entry)))) (now (payload .entry))) (now (payload .entry)) ⌝ }
 {
     let mut inputs = [0u8; 2160];
     let histories = reader.histories;
@@ -49,7 +49,7 @@ fn hear_bits(reader: Reader, s: Settings, bits: &[u8], payload: &mut [u8]) -> St
 fn hear_points(reader: Reader, s: Settings, points: &[f32], payload: &mut [u8]) -> Stepped
     requires { ⌜ PointsAsked s reader (now points) (now payload) ⌝ }
     ensures { λ r. ⌜ r ≡ bySearch (searchOf (planFor s) (now (points .entry)) (s .format) (reader .symbol)) s reader (now (points .entry)) ⌝ }
-    ensures { λ r. ⌜ now (payload .exit) ≡ intoBy (r .answer) (bytesInto s reader (heardInput s reader (shownBit (planFor s) (now (points .entry)))) (now (payload .entry))) (now (payload .entry)) ⌝ }
+    ensures { λ r. ⌜ now (payload .exit) ≡ stepIntoBy (r .answer) (bytesInto s reader (heardInput s reader (shownBit (planFor s) (now (points .entry)))) (now (payload .entry))) (now (payload .entry)) ⌝ }
 {
     let mut bits = [0u8; 2592];
     let found = symbol_bits(

@@ -14,6 +14,6 @@ places : Holds placeClaim
 places = sound placeClaim tt
 
 -- a place's number
-pub place-is : (stream k : ℕ) (z : ℤ) → subcarrierFrom k ≡ z → k < 128 → pos (256 * stream + (k + 64)) ≡ pos (256 * stream) +ℤ (z +ℤ pos 128)
-place-is stream k z e l =
+pub place-number-is : (stream k : ℕ) (z : ℤ) → subcarrierFrom k ≡ z → k < 128 → pos (256 * stream + (k + 64)) ≡ pos (256 * stream) +ℤ (z +ℤ pos 128)
+place-number-is stream k z e l =
     ap (λ (y : ℤ). pos (256 * stream) +ℤ y) (sym (counted-same (subcarrierFrom k +ℤ pos 128) (pos (k + 64)) (places k l)) ∙ ap (λ (y : ℤ). y +ℤ pos 128) e)

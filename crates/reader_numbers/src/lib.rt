@@ -1,8 +1,8 @@
 // The reader's settings, states and answers as the numbers of the C calls.
 use acceptance::accept::StepAnswer;
 use acceptance::accept::Stepped;
+use conversions::byte_number;
 use conversions::refused;
-use conversions::wide;
 use reader_place::place::PlaceAnswer;
 use reader_state::state::OpenSettings;
 use reader_state::state::Reader;
@@ -46,12 +46,12 @@ pub fn state_number(reader: Reader) -> u64
     requires { ⌜ reader .symbol < 65536 ⌝ }
     ensures { λ r. ⌜ (r ≡ stateNumber reader) × (r < 562949953421312) ⌝ }
 {
-    let first = wide(reader.histories[0]);
-    let second = wide(reader.histories[1]);
+    let first = byte_number(reader.histories[0]);
+    let second = byte_number(reader.histories[1]);
     let low = reader.symbol + 65536 * first + 16777216 * second;
     low
-        + 4294967296 * wide(reader.scrambler)
-        + 1099511627776 * wide(reader.part)
+        + 4294967296 * byte_number(reader.scrambler)
+        + 1099511627776 * byte_number(reader.part)
         + 281474976710656 * one(reader.ended)
 }
 
@@ -84,7 +84,7 @@ fn answer_seed(answer: StepAnswer) -> u64
     ensures { λ r. ⌜ (r ≡ stepSeed answer) × (r < 256) ⌝ }
 {
     match answer {
-        StepAnswer::First(seed) => wide(seed),
+        StepAnswer::First(seed) => byte_number(seed),
         StepAnswer::Next => 0,
         StepAnswer::BadPoint(_, _) => 0,
         StepAnswer::Refused(_) => 0,
@@ -106,7 +106,7 @@ fn found_number(stream: u8, subcarrier: i32) -> u64
     requires { ⌜ Inside 40 subcarrier ⌝ }
     ensures { λ r. ⌜ (pos r ≡ pos (256 * stream) +ℤ (subcarrier +ℤ pos 128)) × (r < 65536) ⌝ }
 {
-    256 * wide(stream) + (index(subcarrier) as u64 + 64)
+    256 * byte_number(stream) + (index(subcarrier) as u64 + 64)
 }
 
 // The place of a point, 65,535 where there is none, or the refusal's number negated.

@@ -14,7 +14,7 @@ use Rattle.chain.specs.DataBits.{payloadBit}
 use Rattle.chain.proofs.InputLaws.{payload-bit}
 use Rattle.settings.specs.declared.settings.Settings.{Settings}
 use Rattle.settings.specs.Settings.{Right}
-use Rattle.assembler.specs.Assembled.{packed, byteOf}
+use Rattle.assembler.specs.Assembled.{bitsNumber, byteOf}
 use Rattle.assembler.proofs.Packing.{packed-as, packed-small, packed-bit}
 use Rattle.reader_state.specs.declared.state.OpenSettings.{OpenSettings}
 use Rattle.reader_runs.specs.Sent.{FloatsSent, SentBy}
@@ -22,10 +22,10 @@ use Rattle.reader_runs.proofs.Runs.{floats-agree}
 
 -- a byte is the number that its bits write
 abbrev byteClaim : Claim
-byteClaim = upTo 256 λ a. packed (λ b. a / 2 ^ b % 2) 0 8 is a
+byteClaim = upTo 256 λ a. bitsNumber (λ b. a / 2 ^ b % 2) 0 8 is a
 
 pub byte-bits : Holds byteClaim
-unfolding packed
+unfolding bitsNumber
 byte-bits = sound byteClaim tt
 
 -- bit b of byte j

@@ -26,7 +26,7 @@ use Rattle.settings.proofs.SettingsLaws.{plan-fits}
 use Rattle.symbols.specs.Symbols.{symbolsOf}
 use Rattle.symbols.proofs.CountLaws.{symbols-some}
 use Rattle.modulator.proofs.SymbolLaws.{symbol-ext}
-use Rattle.assembler.specs.Assembled.{packed, byteOf}
+use Rattle.assembler.specs.Assembled.{bitsNumber, byteOf}
 use Rattle.reader_state.specs.declared.state.OpenSettings.{OpenSettings}
 use Rattle.reader_state.specs.declared.state.Reader.{Reader}
 use Rattle.acceptance.specs.declared.accept.StepAnswer.the-variants.{First, Next}
@@ -59,9 +59,9 @@ floats-agree s right o m v seed w seed′ agree n l points sent g h =
     before : (d : ℕ) → d < n * planFor s .dbps + planFor s .dbps → d < firstBit s m
     before d high = omega (arith, high, rw suc-mul at (mul-le-mul-right (planFor s .dbps) l))
 
-packed-none : (f : ℕ → ℕ) (a r : ℕ) → r ≡ 0 → packed f a r ≡ 0
-unfolding packed
-packed-none f a r e = ap (packed f a) e
+packed-none : (f : ℕ → ℕ) (a r : ℕ) → r ≡ 0 → bitsNumber f a r ≡ 0
+unfolding bitsNumber
+packed-none f a r e = ap (bitsNumber f a) e
 
 -- a state by its fields
 state-eq : (o : OpenSettings) (n : ℕ) {e e′ : Bool} {h h′ : List ℕ} {k part part′ : ℕ} → e ≡ e′ → h ≡ h′ → part ≡ part′

@@ -33,7 +33,7 @@ use Rattle.reader_state.specs.declared.state.Reader.{Reader}
 use Rattle.acceptance.specs.declared.accept.StepAnswer.the-variants.{First, Next, Refused as StepRefused}
 use Rattle.acceptance.specs.declared.accept.Stepped.{Stepped}
 use Rattle.reader_state.specs.State.{InRange, openRaw, firstBit}
-use Rattle.acceptance.specs.Accepted.{answered, frameRight, bitsBefore, intoBy}
+use Rattle.acceptance.specs.Accepted.{answered, frameRight, bitsBefore, stepIntoBy}
 use Rattle.reader.specs.Step.{bySearch, noRoom, stepOf, writtenBy, stepInto, stepNumber}
 use Rattle.verdicts.specs.Statements.{InReach}
 use Rattle.verdicts.proofs.StepCases.{heard, decoded, step-open}
@@ -64,7 +64,7 @@ refused-by false true false n e some = inr (inr e)
 refused-by false true true n e some = absurd (some e)
 
 -- an accepted symbol's bytes are written
-accepted-into : (first : Bool) (seed : ℕ) (written payload : List ℕ) → intoBy (cond first (First seed) Next) written payload ≡ written
+accepted-into : (first : Bool) (seed : ℕ) (written payload : List ℕ) → stepIntoBy (cond first (First seed) Next) written payload ≡ written
 accepted-into true seed written payload = refl
 accepted-into false seed written payload = refl
 
@@ -134,7 +134,7 @@ module _ (o : OpenSettings) (ready : checkOf (openRaw o) ≡ Accepted (settingsF
           ≡ take (bitsBefore s n / 8) payload ++ (firsts (λ k. byteOf v (bitsBefore s n / 8 + k)) (bitsBefore s (n + 1) / 8 - bitsBefore s n / 8) ++ drop (bitsBefore s (n + 1) / 8) payload)
       unfolding stateAfter
       step-writes sent payload whole =
-          ap (λ (r : Stepped). intoBy (r .answer) (writtenBy (checkOf (openRaw o)) st points payload) payload) (step-takes sent (length payload) whole)
+          ap (λ (r : Stepped). stepIntoBy (r .answer) (writtenBy (checkOf (openRaw o)) st points payload) payload) (step-takes sent (length payload) whole)
           ∙ accepted-into (eqb n 0) seed _ payload
           ∙ ap (λ (c : Checked). writtenBy c st points payload) ready
           ∙ sent-bytes s sound o v seed bits some small n (shownBit p points) (floats-show p fits x points (s .format) n sent) payload

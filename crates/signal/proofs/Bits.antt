@@ -107,8 +107,8 @@ packed-low (suc n) x =
 -- ---- bits of numbers
 
 -- lists of as many bits and of the same number are the same
-pub same-bits : (a b : List ℕ) → Two a → Two b → length a ≡ length b → value a ≡ value b → a ≡ b
-same-bits a b s t n v = sym (low-value a s) ∙ ap (λ (k : ℕ). low k (value a)) n ∙ ap (low (length b)) v ∙ low-value b t
+pub same-bit-list : (a b : List ℕ) → Two a → Two b → length a ≡ length b → value a ≡ value b → a ≡ b
+same-bit-list a b s t n v = sym (low-value a s) ∙ ap (λ (k : ℕ). low k (value a)) n ∙ ap (low (length b)) v ∙ low-value b t
 
 -- bits are the low bits of their number, by their count
 pub low-of : (k : ℕ) (l : List ℕ) → Two l → length l ≡ k → l ≡ low k (value l)

@@ -31,10 +31,10 @@ use Rattle.sig_crc.specs.Crc.{crcRun, crcField}
 use Rattle.sig_words.specs.Words.{oneIf, headWord, sigWord, sixOf, wordIn, wordCrcWrong, wordFormWrong, fieldsInWord, SigFits}
 use Rattle.sig_words.proofs.WordLaws.{same-fields, one-small, one-back}
 use Rattle.laws.specs.Bytes.{AreBytes}
-use Rattle.signal.specs.Statements.{ReadExactly, ReadRefusals, RoomRow, WriteRefusals}
+use Rattle.signal.specs.Statements.{ReadExactly, ReadRefusals, SignalRoomRow, WriteRefusals}
 use Rattle.settings.proofs.SettingsLaws.{right, accepted-is}
 use Rattle.settings.proofs.Refusals.{settingsRules, after-settings}
-use Rattle.signal.proofs.Bits.{Two, two-low, two-append, value-append, value-low, same-bits, low-of, low-mod, field-of, drop-low, take-low, packed-low, six-bits, bits-in, six-joined, six-small, six-are-bytes, word-again}
+use Rattle.signal.proofs.Bits.{Two, two-low, two-append, value-append, value-low, same-bit-list, low-of, low-mod, field-of, drop-low, take-low, packed-low, six-bits, bits-in, six-joined, six-small, six-are-bytes, word-again}
 use Rattle.signal.proofs.Registers.{crc-value, two-sent, field-small}
 
 -- ---- the field that is written
@@ -487,7 +487,7 @@ same-crc l h e =
     let v = value (bitsIn l) in
     let s : take 8 (drop 34 (bitsIn l)) ≡ low 8 (v / 17179869184) =
     ap (λ (b : List ℕ). take 8 (drop 34 b)) (six-bits l h) ∙ ap (take 8) (drop-low 34 14 v) ∙ take-low 8 6 (v / 17179869184) in
-    s ∙ same-bits (low 8 (v / 17179869184)) (crcBits (take 34 (bitsIn l))) (two-low 8 (v / 17179869184)) (two-sent (shiftedOver ones (take 34 (bitsIn l)))) refl (ap value (sym s) ∙ e)
+    s ∙ same-bit-list (low 8 (v / 17179869184)) (crcBits (take 34 (bitsIn l))) (two-low 8 (v / 17179869184)) (two-sent (shiftedOver ones (take 34 (bitsIn l)))) refl (ap value (sym s) ∙ e)
 
 crc-row : (l : List ℕ) → length l ≡ 6 → (crcWrong (bitsIn l) ≡ true) ↔ CrcRow l
 unfolding crcWrong field
@@ -598,7 +598,7 @@ blank-changes s r e =
 -- ---- the refusals of the write
 
 abbrev roomRule : ℕ → Rule
-roomRule room = record { number = 8; Applies = RoomRow room; test = ltb room 6; right = less room 6 }
+roomRule room = record { number = 8; Applies = SignalRoomRow room; test = ltb room 6; right = less room 6 }
 
 -- the signal write gives each refusal exactly when its row applies and none before it does
 pub write-refusals : WriteRefusals

@@ -23,15 +23,15 @@ ReadExactly = (l : List ℕ) → AreBytes l
 -- ---- refusals, as the settings' statements have them: "given exactly when" its row applies and none tested before it does; 0 where none applies
 
 -- "the lent slice for .. signal bytes .. is too short"
-abbrev pub RoomRow : ℕ → Type 0
-RoomRow room = room < 6
+abbrev pub SignalRoomRow : ℕ → Type 0
+SignalRoomRow room = room < 6
 
 -- the signal write: 1 to 5, then 8
 abbrev pub WriteRefusals : Type 0
 WriteRefusals = (a : RawSettings) (room : ℕ) → let n = writtenNumber (writtenOf (checkOf a) room) in
     SettingsRows a n
-    (((n ≡ 8) ↔ (RoomRow room × NoSettingsRow a (Unit {0})))
-    × ((n ≡ 0) ↔ NoSettingsRow a ((RoomRow room → ⊥) × Unit {0})))
+    (((n ≡ 8) ↔ (SignalRoomRow room × NoSettingsRow a (Unit {0})))
+    × ((n ≡ 0) ↔ NoSettingsRow a ((SignalRoomRow room → ⊥) × Unit {0})))
 
 -- the signal read: 6, 13, 14
 abbrev pub ReadRefusals : Type 0

@@ -113,7 +113,7 @@ pub fn label_sources(table: &mut [u16], plan: Plan)
 }
 
 // An entry of the table as a place.
-pub fn wide(entry: u16) -> usize
+pub fn source_index(entry: u16) -> usize
     ensures { λ r. ⌜ r ≡ entry ⌝ }
 {
     entry as usize

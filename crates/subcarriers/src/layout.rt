@@ -50,7 +50,7 @@ const CARRIERS_40: [u8; 8] = [0, 5, 32, 45, 54, 63, 76, 103];
 const COUNTS_40: [u8; 8] = [5, 27, 13, 9, 9, 13, 27, 5];
 
 // An entry of a table as a number of places.
-pub fn wide(entry: u8) -> usize
+pub fn entry_index(entry: u8) -> usize
     ensures { λ r. ⌜ r ≡ entry ⌝ }
 {
     entry as usize
@@ -61,9 +61,9 @@ fn run_20(r: usize) -> Run
     ensures { λ run. ⌜ run ≡ runOf 20 r ⌝ }
 {
     Run {
-        place: wide(PLACES_20[r]),
-        carrier: wide(CARRIERS_20[r]),
-        count: wide(COUNTS_20[r]),
+        place: entry_index(PLACES_20[r]),
+        carrier: entry_index(CARRIERS_20[r]),
+        count: entry_index(COUNTS_20[r]),
         piloted: r % 3 != 2,
         pilot: r - r / 3,
         turned: false,
@@ -75,9 +75,9 @@ fn run_40(r: usize) -> Run
     ensures { λ run. ⌜ run ≡ runOf 40 r ⌝ }
 {
     Run {
-        place: wide(PLACES_40[r]),
-        carrier: wide(CARRIERS_40[r]),
-        count: wide(COUNTS_40[r]),
+        place: entry_index(PLACES_40[r]),
+        carrier: entry_index(CARRIERS_40[r]),
+        count: entry_index(COUNTS_40[r]),
         piloted: r % 4 != 3,
         pilot: r - r / 4,
         turned: r >= 4,

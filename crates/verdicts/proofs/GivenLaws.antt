@@ -260,9 +260,9 @@ module _ (p : Plan) (fits : Fits p) (format n i : ℕ) (z : ℤ) (x y : Float) w
       ∙ data-back (r .h) c e (half-in (r .h i) (r .labels) single c) (r .first) (r .second) .given
 
 -- a point is given exactly where the rules give it
-pub given-exactly : (p : Plan) → Fits p → (points : List Float) (format n i f : ℕ) → i < p .streams → f < placesOf (p .width)
+pub given-by-rules : (p : Plan) → Fits p → (points : List Float) (format n i f : ℕ) → i < p .streams → f < placesOf (p .width)
     → (pointGiven p points format n i f ≡ true) ↔ PointByRules p points format n i f
-given-exactly p fits points format n i f stream place =
+given-by-rules p fits points format n i f stream place =
     let w = p .width in
     let z = subcarrierAt w f in
     let x = floatAt w points i f 0 in
@@ -472,7 +472,7 @@ module _ (p : Plan) (fits : Fits p) (h : ℕ → ℕ → ℕ) (points : List Flo
   -- the floats of half labels are given, and show the half labels' bits
   pub shown-back : ShownBack p h points format n
   shown-back = record {
-    given = λ i f stream place. given-exactly p fits points format n i f stream place .1 (rules-own i f stream place);
+    given = λ i f stream place. given-by-rules p fits points format n i f stream place .1 (rules-own i f stream place);
     shown = λ i r stream l.
         let w = p .width in
         let c = r / p .bits in

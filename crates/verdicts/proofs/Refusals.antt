@@ -32,7 +32,7 @@ use Rattle.detector.specs.declared.search.Search.the-variants.{AllGiven, At}
 use Rattle.detector.specs.Detected.{pointGiven, searchOf, PointByRules}
 use Rattle.reader_state.proofs.StateLaws.{not-closed}
 use Rattle.verdicts.specs.Searches.{AllPass, FirstFailing}
-use Rattle.verdicts.proofs.GivenLaws.{given-exactly as given-by-rules, search-cases, shown-bit}
+use Rattle.verdicts.proofs.GivenLaws.{given-by-rules, search-cases, shown-bit}
 use Rattle.decoder.proofs.ExtLaws.{code-exactly}
 use Rattle.deframer.specs.Deframed.{inputOk, framed}
 use Rattle.deframer.proofs.Framing.{framed-exactly, right-ok}
@@ -44,10 +44,10 @@ use Rattle.acceptance.specs.declared.accept.Stepped.{Stepped}
 use Rattle.reader_place.specs.declared.place.PlaceAnswer.{PlaceAnswer}
 use Rattle.reader_place.specs.declared.place.PlaceAnswer.the-variants.{Passed, Found, Refused as PlaceRefused}
 use Rattle.reader_state.specs.State.{openRaw, startBy, startOf, startNumber, historyOf, firstBit, endedOf}
-use Rattle.acceptance.specs.Accepted.{answered, scramblerFor, plainOf, frameRight, intoBy, acceptedWith}
+use Rattle.acceptance.specs.Accepted.{answered, scramblerFor, plainOf, frameRight, stepIntoBy, acceptedWith}
 use Rattle.reader.specs.Step.{bySearch, noRoom, stepOf, writtenBy, stepNumber, stepStream, stepSubcarrier}
 use Rattle.reader_place.specs.Place.{foundAs, placeBy, placeOf}
-use Rattle.verdicts.specs.Statements.{settingsIn, InReach, ClosedRow, RoomRow, PointRow, shownIn, inputIn, CodeRow, WrongBit, FrameRow, StepRefusals, FirstPlace, PlaceIsFirst, RefusedUnchanged, RefusedState, StartRefusals, PlaceTied}
+use Rattle.verdicts.specs.Statements.{settingsIn, InReach, ClosedRow, StepRoomRow, PointRow, shownIn, inputIn, CodeRow, WrongBit, FrameRow, StepRefusals, FirstPlace, PlaceIsFirst, RefusedUnchanged, RefusedState, StartRefusals, PlaceTied}
 use Rattle.verdicts.proofs.StepCases.{heard, decoded, moved, step-open, reach, accepted-zero, step-by}
 
 -- the tests that a row does not apply
@@ -167,7 +167,7 @@ module _ (st : Reader) (points : List Float) (bytes : ℕ) (o : InReach st) wher
   abbrev roomRule : Rule
   roomRule = record {
     number = 8;
-    Applies = RoomRow st (length points) bytes;
+    Applies = StepRoomRow st (length points) bytes;
     test = noRoom (settingsIn st) (length points) bytes;
     right = either (ltb (length points) (floatsOf (settingsIn st))) (ltb bytes (settingsIn st .length)) (less (length points) (floatsOf (settingsIn st)))
         (less bytes (settingsIn st .length));
@@ -232,7 +232,7 @@ step-refusals st points bytes = (
 pub refused-step-unchanged : RefusedUnchanged
 refused-step-unchanged st points payload = go (stepOf st points (length payload) .answer)
   where
-    go : (a : StepAnswer) → (stepNumber a ≡ 0 → ⊥) → intoBy a (writtenBy (checkOf (openRaw (st .settings))) st points payload) payload ≡ payload
+    go : (a : StepAnswer) → (stepNumber a ≡ 0 → ⊥) → stepIntoBy a (writtenBy (checkOf (openRaw (st .settings))) st points payload) payload ≡ payload
     go (First k) n = absurd (n refl)
     go Next n = absurd (n refl)
     go (BadPoint i z) n = refl

@@ -33,7 +33,7 @@ use Rattle.detector.specs.Detected.{floatAt, searchOf, shownBit, PointByRules}
 use Rattle.verdicts.specs.Searches.{AllPass, FirstFailing, ShownBack}
 use Rattle.demapper.proofs.PointLaws.{axis-one, axis-two}
 use Rattle.detector.proofs.SearchLaws.{carrier-place-is, shown-at, found-none}
-use Rattle.verdicts.proofs.GivenLaws.{pairOf, firstHalf, secondHalf, sent-pair, half-in, data-back, given-exactly, search-cases, pointed, shown-back}
+use Rattle.verdicts.proofs.GivenLaws.{pairOf, firstHalf, secondHalf, sent-pair, half-in, data-back, given-by-rules, search-cases, pointed, shown-back}
 
 -- ---- a label and its bits
 -- the bits of a label write it
@@ -185,6 +185,6 @@ module _ (p : Plan) (fits : Fits p) (x : ℕ → ℕ) (points : List Float) (for
       let stream : i < p .streams = div-lt-iff-lt-mul {k = floats} some .1 l in
       let place : f < placesOf (p .width) = omega (arith, mod-lt g some) in
       let there : i * floats + (2 * f + k % 2) ≡ g = omega (arith, div-add-mod' g floats) in
-      let rule = given-exactly p fits points format n i f stream place .0 (all-pass e .passed i f stream place) in
+      let rule = given-by-rules p fits points format n i f stream place .0 (all-pass e .passed i f stream place) in
       subst (λ (j : ℕ). toBits binary32 (getD points j nan) ≡ toBits binary32 (symbolFloat p half format n j)) there
       (place-float shown i f stream place rule (k % 2) (omega arith))

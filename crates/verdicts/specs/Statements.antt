@@ -40,8 +40,8 @@ abbrev pub ClosedRow : Reader → Type 0
 ClosedRow st = InReach st → ⊥
 
 -- 8, "the lent slice for points .. or payload is too short"
-abbrev pub RoomRow : Reader → (floats bytes : ℕ) → Type 0
-RoomRow st floats bytes = (floats < floatsOf (settingsIn st)) ⊎ (bytes < settingsIn st .length)
+abbrev pub StepRoomRow : Reader → (floats bytes : ℕ) → Type 0
+StepRoomRow st floats bytes = (floats < floatsOf (settingsIn st)) ⊎ (bytes < settingsIn st .length)
 
 -- 9, "some point or pilot is not one the rules give"
 pub record PointRow (st : Reader) (points : List Float) : Type 0 where
@@ -77,11 +77,11 @@ abbrev pub StepRefusals : Type 0
 StepRefusals = (st : Reader) (points : List Float) (bytes : ℕ) → let n = stepNumber (stepOf st points bytes .answer) in
     ((n ≡ 12) ↔ ClosedRow st)
     × (InReach st
-    → ((n ≡ 8) ↔ (RoomRow st (length points) bytes × Unit {0}))
-    × (((n ≡ 9) ↔ (PointRow st points × ((RoomRow st (length points) bytes → ⊥) × Unit {0})))
-    × (((n ≡ 10) ↔ (CodeRow st points × ((RoomRow st (length points) bytes → ⊥) × ((PointRow st points → ⊥) × Unit {0}))))
-    × (((n ≡ 11) ↔ (FrameRow st points × ((RoomRow st (length points) bytes → ⊥) × ((PointRow st points → ⊥) × ((CodeRow st points → ⊥) × Unit {0})))))
-    × ((n ≡ 0) ↔ ((RoomRow st (length points) bytes → ⊥) × ((PointRow st points → ⊥) × ((CodeRow st points → ⊥) × ((FrameRow st points → ⊥) × Unit {0})))))))))
+    → ((n ≡ 8) ↔ (StepRoomRow st (length points) bytes × Unit {0}))
+    × (((n ≡ 9) ↔ (PointRow st points × ((StepRoomRow st (length points) bytes → ⊥) × Unit {0})))
+    × (((n ≡ 10) ↔ (CodeRow st points × ((StepRoomRow st (length points) bytes → ⊥) × ((PointRow st points → ⊥) × Unit {0}))))
+    × (((n ≡ 11) ↔ (FrameRow st points × ((StepRoomRow st (length points) bytes → ⊥) × ((PointRow st points → ⊥) × ((CodeRow st points → ⊥) × Unit {0})))))
+    × ((n ≡ 0) ↔ ((StepRoomRow st (length points) bytes → ⊥) × ((PointRow st points → ⊥) × ((CodeRow st points → ⊥) × ((FrameRow st points → ⊥) × Unit {0})))))))))
 
 -- "9 also returns the place: streams in order, subcarriers rising, the first failing point ends the search"
 pub record FirstPlace (st : Reader) (points : List Float) (i : ℕ) (z : ℤ) : Type 0 where

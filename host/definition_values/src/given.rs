@@ -198,7 +198,7 @@ use Rattle.reader_state.specs.declared.state.OpenSettings.{OpenSettings}
 use Rattle.reader_state.specs.declared.state.Reader.{Reader}
 use Rattle.reader_state.specs.State.{startOf, startNumber, historyOf}
 use Rattle.acceptance.specs.declared.accept.Stepped.{Stepped}
-use Rattle.acceptance.specs.Accepted.{bytesInto, intoBy, byFrame}
+use Rattle.acceptance.specs.Accepted.{bytesInto, stepIntoBy, byFrame}
 use Rattle.reader.specs.Step.{heardInput, byCode, stepOf, stepNumber, stepSeed, stepStream, stepSubcarrier}
 use Rattle.reader_place.specs.declared.place.PlaceAnswer.{PlaceAnswer}
 use Rattle.reader_place.specs.declared.place.PlaceAnswer.the-variants.{Passed, Found, Refused as PlaceRefused}
@@ -261,7 +261,7 @@ codeAt s st labels = steppedNumbers (byCode s st (labelsIn s labels))
 
 abbrev pub codeBytesAt : Settings → Reader → (labels lent : List ℕ) → List ℕ
 codeBytesAt s st labels lent =
-    intoBy (byCode s st (labelsIn s labels) .answer) (bytesInto s st (heardInput s st (labelsIn s labels)) lent) lent
+    stepIntoBy (byCode s st (labelsIn s labels) .answer) (bytesInto s st (heardInput s st (labelsIn s labels)) lent) lent
 
 -- the same from a symbol's inputs on, with the histories after them
 abbrev pub inputsIn : (inputs : List ℕ) (d : ℕ) → ℕ
@@ -272,5 +272,5 @@ frameAt s st inputs histories = steppedNumbers (byFrame s st (inputsIn inputs) h
 
 abbrev pub frameBytesAt : Settings → Reader → (inputs histories lent : List ℕ) → List ℕ
 frameBytesAt s st inputs histories lent =
-    intoBy (byFrame s st (inputsIn inputs) histories .answer) (bytesInto s st (inputsIn inputs) lent) lent
+    stepIntoBy (byFrame s st (inputsIn inputs) histories .answer) (bytesInto s st (inputsIn inputs) lent) lent
 "#;

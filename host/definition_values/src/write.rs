@@ -63,7 +63,7 @@ const SHUT: [(&str, &str); 25] = [
     ),
     ("Rattle.decoder.specs.Decoded", "historyMoved"),
     ("Rattle.deframer.specs.Deframed", "inputOk framed"),
-    ("Rattle.assembler.specs.Assembled", "packed knownBit"),
+    ("Rattle.assembler.specs.Assembled", "bitsNumber knownBit"),
     ("Rattle.reader_state.specs.State", "closedOf"),
     (
         "Rattle.acceptance.specs.Accepted",

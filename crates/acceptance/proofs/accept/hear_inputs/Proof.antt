@@ -1,5 +1,5 @@
 -- `hear_inputs` puts the parts together: the scrambler, the plain bits, the test, the bytes and the state after them.
-use Rattle.acceptance.specs.Asked.{bitsOf}
+use Rattle.acceptance.specs.Asked.{bitNumbered}
 use mathlib.Core.Path.{_∙_, sym}
 use native.Mathlib.Omega.{arith}
 use denote.Ref.{now}
@@ -56,7 +56,7 @@ returns c =
     let k = c .before .before .before .before .before .before .before .before .before .before .before in
     let p = k .before .before .before in
     let a = c .before .before .before .before .before .before .before .before .before .before .before .before .before .before .before .before .before in
-    heard-accepted (a .args .s) (a .pre .held .right) (a .args .reader) (bitsOf (now (a .args .inputs))) (a .args .histories) (k .descramble .last .0) (k .before .before .scrambler-for .result) (k .before .before .scrambler-for .ensures .0)
+    heard-accepted (a .args .s) (a .pre .held .right) (a .args .reader) (bitNumbered (now (a .args .inputs))) (a .args .histories) (k .descramble .last .0) (k .before .before .scrambler-for .result) (k .before .before .scrambler-for .ensures .0)
     (plain-at (a .args .s) (p .plan-of .result) (p .plan-of .ensures) _ _ _ _ (k .descramble .ensures))
     _ _ _ _ _ (sym (c .before .before .before .before .before .before .before .before .is-right .ensures) ∙ c .before .before .before .before .before .before .before .if1 .taken) (c .before .accepted-as .ensures) (c .moved .ensures) (c .before .before .before .before .put-bytes .ensures .1) (c .before .before .before .before .put-bytes .ensures .0)
 
@@ -68,7 +68,7 @@ returns-2 c =
     let k = c .before .before .before .before .before in
     let p = k .before .before .before in
     let a = c .before .before .before .before .before .before .before .before .before .before .before in
-    heard-refused (a .args .s) (a .pre .held .right) (a .args .reader) (bitsOf (now (a .args .inputs))) (a .args .histories) (k .descramble .last .0) (k .before .before .scrambler-for .result) (k .before .before .scrambler-for .ensures .0)
+    heard-refused (a .args .s) (a .pre .held .right) (a .args .reader) (bitNumbered (now (a .args .inputs))) (a .args .histories) (k .descramble .last .0) (k .before .before .scrambler-for .result) (k .before .before .scrambler-for .ensures .0)
     (plain-at (a .args .s) (p .plan-of .result) (p .plan-of .ensures) _ _ _ _ (k .descramble .ensures))
     _ _ (sym (c .before .before .is-right .ensures) ∙ c .before .if1 .left) (c .ended .ensures)
 

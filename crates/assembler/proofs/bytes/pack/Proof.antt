@@ -1,4 +1,4 @@
--- `bytes::pack` meets its contract: two nibbles are the packed byte.
+-- `bytes::pack` meets its contract: two nibbles are the bitsNumber byte.
 use lib.ListN.{getD}
 use Prim.Native.Nat.{_+_}
 use denote.Ref.{now}

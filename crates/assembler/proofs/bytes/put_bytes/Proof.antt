@@ -4,14 +4,14 @@ use native.Mathlib.Omega.{arith}
 use lib.ListN.{getD}
 use Rattle.laws.specs.Filled.{Filled}
 use Rattle.laws.proofs.Filling.{fill-none, fill-more, fill-end}
-use Rattle.assembler.specs.Assembled.{packed}
+use Rattle.assembler.specs.Assembled.{bitsNumber}
 use borrow.Author.Needs.{needs}
 use Rattle.assembler.proofs.bytes.put_bytes.Statement.{statement}
 use Rattle.assembler.proofs.bytes.put_bytes.Tie as tie
 
 abbrev Inv-loop : tie.InvT-loop
 Inv-loop payload₀ line first count k₀ payload k =
-    (k ≤ count) × Filled 0 first (λ i. packed (λ j. getD line j 0) (8 * i) 8) k payload₀ payload
+    (k ≤ count) × Filled 0 first (λ i. bitsNumber (λ j. getD line j 0) (8 * i) 8) k payload₀ payload
 
 abbrev μ-loop : tie.MeasureT-loop
 μ-loop payload₀ line first count k₀ payload k = count - k

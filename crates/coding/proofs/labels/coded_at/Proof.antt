@@ -4,16 +4,16 @@ use Rattle.coding.proofs.labels.coded_at.Statement.{statement}
 use Rattle.coding.proofs.labels.coded_at.Tie as tie
 
 returns : tie.Need-returns
-returns c = rw (c .before .wide .ensures)
+returns c = rw (c .before .source-index .ensures)
 
-mul-wide : tie.Need-mul-wide
-mul-wide c = search needs
+mul-source-index : tie.Need-mul-source-index
+mul-source-index c = search needs
 
-shared-slice-read-wide : tie.Need-shared-slice-read-wide
-shared-slice-read-wide c = search needs
+shared-slice-read-source-index : tie.Need-shared-slice-read-source-index
+shared-slice-read-source-index c = search needs
 
-wide-requires : tie.Need-wide-requires
-wide-requires c κs = search needs
+source-index-requires : tie.Need-source-index-requires
+source-index-requires c κs = search needs
 
 add-result : tie.Need-add-result
 add-result c = search needs
@@ -25,9 +25,9 @@ pub coded-at-spec : {M : Type 1} → statement M
 coded-at-spec =
     tie.close
     (tie.spec
-    mul-wide
-    shared-slice-read-wide
-    wide-requires
+    mul-source-index
+    shared-slice-read-source-index
+    source-index-requires
     add-result
     shared-slice-read-result
     returns)

@@ -17,11 +17,11 @@ abbrev μ-loop : tie.MeasureT-loop
 loop-holds : tie.Need-loop-holds Inv-loop μ-loop
 loop-holds c = (search needs, search needs, count-none _ _)
 
-shared-slice-read-wide : tie.Need-shared-slice-read-wide Inv-loop μ-loop
-shared-slice-read-wide c = search needs
+shared-slice-read-bit-count : tie.Need-shared-slice-read-bit-count Inv-loop μ-loop
+shared-slice-read-bit-count c = search needs
 
-wide-requires : tie.Need-wide-requires Inv-loop μ-loop
-wide-requires c κs = search needs
+bit-count-requires : tie.Need-bit-count-requires Inv-loop μ-loop
+bit-count-requires c κs = search needs
 
 add-total : tie.Need-add-total Inv-loop μ-loop
 add-total c = search needs
@@ -33,7 +33,7 @@ loop-less : tie.Need-loop-less Inv-loop μ-loop
 loop-less c = search needs
 
 loop-again : tie.Need-loop-again Inv-loop μ-loop
-loop-again c = (search needs, search needs, count-more _ _ _ _ _ (omega arith) (c .wide .ensures .0) (c .wide .ensures .1) (c .before .before .before .loop .inv .2))
+loop-again c = (search needs, search needs, count-more _ _ _ _ _ (omega arith) (c .bit-count .ensures .0) (c .bit-count .ensures .1) (c .before .before .before .loop .inv .2))
 
 returns : tie.Need-returns Inv-loop μ-loop
 returns c = (count-end _ _ (omega arith) (c .before .loop .inv .2), omega (arith, c .before .loop .inv .2 .small))
@@ -45,8 +45,8 @@ nonzero-spec =
     Inv-loop
     μ-loop
     loop-holds
-    shared-slice-read-wide
-    wide-requires
+    shared-slice-read-bit-count
+    bit-count-requires
     add-total
     add-d
     loop-less

@@ -20,20 +20,20 @@ abbrev μ-loop : tie.MeasureT-loop
 loop-holds : tie.Need-loop-holds Inv-loop μ-loop
 loop-holds c = (search needs, scatter-none _ _ _ _)
 
-add-wide : tie.Need-add-wide Inv-loop μ-loop
-add-wide c = search needs
+add-source-index : tie.Need-add-source-index Inv-loop μ-loop
+add-source-index c = search needs
 
-mul-wide : tie.Need-mul-wide Inv-loop μ-loop
-mul-wide c = search needs
+mul-source-index : tie.Need-mul-source-index Inv-loop μ-loop
+mul-source-index c = search needs
 
-shared-slice-read-wide : tie.Need-shared-slice-read-wide Inv-loop μ-loop
-shared-slice-read-wide c = search needs
+shared-slice-read-source-index : tie.Need-shared-slice-read-source-index Inv-loop μ-loop
+shared-slice-read-source-index c = search needs
 
-wide-requires : tie.Need-wide-requires Inv-loop μ-loop
-wide-requires c κs = search needs
+source-index-requires : tie.Need-source-index-requires Inv-loop μ-loop
+source-index-requires c κs = search needs
 
 add-at : tie.Need-add-at Inv-loop μ-loop
-add-at c = omega (arith, c .wide .ensures, c .before .before .before .before .before .before .before .pre .reached (c .before .before .before .loop .r) (c .before .before .loop-test .taken), c .before .before .before .before .before .before .before .pre .sized)
+add-at c = omega (arith, c .source-index .ensures, c .before .before .before .before .before .before .before .pre .reached (c .before .before .before .loop .r) (c .before .before .loop-test .taken), c .before .before .before .before .before .before .before .pre .sized)
 
 add-coded : tie.Need-add-coded Inv-loop μ-loop
 add-coded c = search needs
@@ -42,7 +42,7 @@ shared-slice-read-coded : tie.Need-shared-slice-read-coded Inv-loop μ-loop
 shared-slice-read-coded c = search needs
 
 slice-write-coded : tie.Need-slice-write-coded Inv-loop μ-loop
-slice-write-coded c = omega (arith, c .before .wide .ensures, c .before .before .before .before .before .before .before .before .pre .reached (c .before .before .before .before .loop .r) (c .before .before .before .loop-test .taken), c .before .before .before .before .loop .inv .1 .same)
+slice-write-coded c = omega (arith, c .before .source-index .ensures, c .before .before .before .before .before .before .before .before .pre .reached (c .before .before .before .before .loop .r) (c .before .before .before .loop-test .taken), c .before .before .before .before .loop .inv .1 .same)
 
 add-r : tie.Need-add-r Inv-loop μ-loop
 add-r c = search needs
@@ -51,7 +51,7 @@ loop-less : tie.Need-loop-less Inv-loop μ-loop
 loop-less c = search needs
 
 loop-again : tie.Need-loop-again Inv-loop μ-loop
-loop-again c = (search needs, run-more _ _ (c .before .before .before .before .before .before .before .before .pre) (c .before .before .before .loop-test .taken) (c .before .wide .ensures) (c .before .before .before .before .loop .inv .1))
+loop-again c = (search needs, run-more _ _ (c .before .before .before .before .before .before .before .before .pre) (c .before .before .before .loop-test .taken) (c .before .source-index .ensures) (c .before .before .before .before .loop .inv .1))
 
 same-length : tie.Need-same-length Inv-loop μ-loop
 same-length c = search needs
@@ -66,10 +66,10 @@ put-run-spec =
     Inv-loop
     μ-loop
     loop-holds
-    add-wide
-    mul-wide
-    shared-slice-read-wide
-    wide-requires
+    add-source-index
+    mul-source-index
+    shared-slice-read-source-index
+    source-index-requires
     add-at
     add-coded
     shared-slice-read-coded

@@ -2,7 +2,7 @@
 use mathlib.Core.Path.{_∙_, ap}
 use lib.ListN.{set}
 use borrow.Author.Needs.{needs}
-use Rattle.chain.specs.Decoder.{pushed}
+use Rattle.chain.specs.Decoder.{historyWith}
 use Rattle.forcing.proofs.StepLaws.{sum-by}
 use Rattle.forcing.proofs.steps.step.Statement.{statement}
 use Rattle.forcing.proofs.steps.step.Tie as tie
@@ -28,7 +28,7 @@ returns c =
     let s = c .before .sum-after .ensures in
     let e = sum-by (a .m) (a .history) _ _ (s .0) (s .1) in
     record {
-      moved = c .push .ensures .0 ∙ ap (pushed (a .history)) e;
+      moved = c .push .ensures .0 ∙ ap (historyWith (a .history)) e;
       small = c .push .ensures .1;
       written = ap (set (a .inputs .now) (a .to)) e;
     }

@@ -14,8 +14,8 @@ read-frame-requires c κs = search needs
 enum-known-seed : tie.Need-enum-known-seed
 enum-known-seed c = search needs
 
-wide-requires : tie.Need-wide-requires
-wide-requires c κs = search needs
+byte-number-requires : tie.Need-byte-number-requires
+byte-number-requires c κs = search needs
 
 cast-result : tie.Need-cast-result
 cast-result c = search needs
@@ -43,7 +43,7 @@ same-length c = search needs
 
 returns : tie.Need-returns
 returns c =
-    let w = c .wide in
+    let w = c .byte-number in
     let g = c .before .before in
     let k = g .before .before .before .before in (
       pos-is (w .result) (omega (arith, w .ensures .1)) ∙ ap pos (w .ensures .0) ∙ ap frameResult (sym (g .seed .given .1) ∙ k .read-frame .ensures .0),
@@ -83,7 +83,7 @@ read-frame-call-spec =
     (tie.spec
     read-frame-requires
     enum-known-seed
-    wide-requires
+    byte-number-requires
     cast-result
     enum-told
     refused-requires

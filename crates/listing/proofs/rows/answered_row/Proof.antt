@@ -1,7 +1,7 @@
 -- `listing::rows::answered_row` meets its contract: the answer by the count. Assumes nothing.
 use mathlib.Core.Path.{sym, _∙_}
 use Rattle.settings.specs.Settings.{checkOf}
-use Rattle.listing.proofs.RowLaws.{count-small, six-written, row-accepted, row-refused}
+use Rattle.listing.proofs.RowLaws.{count-small, six-bytes, row-accepted, row-refused}
 use borrow.Author.Needs.{needs}
 use Rattle.listing.proofs.rows.answered_row.Statement.{statement}
 use Rattle.listing.proofs.rows.answered_row.Tie as tie
@@ -35,7 +35,7 @@ accepted-row-requires c κs = (
   c .before .before .before .before .before .before .before .inputs-row .ensures .1,
   (
     count-small (c .before .before .before .before .before .before .raw-for .result) _ (sym (c .before .before .before .n .given .1) ∙ c .before .before .before .before .before .symbol-count .ensures),
-    six-written (checkOf (c .before .before .before .before .before .before .raw-for .result)) _ (c .before .sig-bytes .ensures),
+    six-bytes (checkOf (c .before .before .before .before .before .before .raw-for .result)) _ (c .before .sig-bytes .ensures),
   ),
 )
 

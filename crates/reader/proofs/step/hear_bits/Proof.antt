@@ -3,7 +3,7 @@ use mathlib.Core.Path.{_∙_, refl, sym}
 use native.Mathlib.Omega.{arith}
 use denote.Ref.{now}
 use Rattle.reader.proofs.HearLaws.{inputs-asked, inputs-at, frame-asked, sound-by, after-by, bits-heard, bits-refused}
-use Rattle.deinterleaver.specs.Deinterleaved.{bitsIn}
+use Rattle.deinterleaver.specs.Deinterleaved.{labelBitIn}
 use Rattle.settings.specs.Settings.{planFor}
 use borrow.Author.Needs.{needs}
 use Rattle.reader.proofs.step.hear_bits.Statement.{statement}
@@ -37,7 +37,7 @@ returns c =
     let k = c .before .before .before .before .before .before .before .before in
     let p = k .before in
     let a = c .before .before .before .before .before .before .before .before .before .before .before .before .before .before in
-    bits-heard (a .args .s) (a .pre .right) (a .args .reader) (bitsIn (planFor (a .args .s)) (now (a .args .bits))) (k .symbol-inputs .last .0)
+    bits-heard (a .args .s) (a .pre .right) (a .args .reader) (labelBitIn (planFor (a .args .s)) (now (a .args .bits))) (k .symbol-inputs .last .0)
     (inputs-at (a .args .s) (a .args .reader) (p .plan-of .result) (p .plan-of .ensures) (now (a .args .bits)) _ _ (k .symbol-inputs .ensures .0))
     _ _ _ _ (sym (sound-by (a .args .s) (a .args .reader) (p .plan-of .result) (p .plan-of .ensures) (now (a .args .bits)) (k .symbol-inputs .result .sound) (k .symbol-inputs .ensures .1 .0)) ∙ c .before .before .before .before .before .before .if1 .taken)
     (after-by (a .args .s) (a .args .reader) (p .plan-of .result) (p .plan-of .ensures) (now (a .args .bits)) (k .symbol-inputs .result .histories) (k .symbol-inputs .ensures .1 .1)) (c .before .before .hear-inputs .ensures)
@@ -50,7 +50,7 @@ returns-2 c =
     let k = c .before .before .before in
     let p = k .before in
     let a = c .before .before .before .before .before .before .before .before .before in
-    (bits-refused (a .args .s) (a .pre .right) (a .args .reader) (bitsIn (planFor (a .args .s)) (now (a .args .bits))) _ (sym (sound-by (a .args .s) (a .args .reader) (p .plan-of .result) (p .plan-of .ensures) (now (a .args .bits)) (k .symbol-inputs .result .sound) (k .symbol-inputs .ensures .1 .0)) ∙ c .before .if1 .left) (c .ended .ensures), refl)
+    (bits-refused (a .args .s) (a .pre .right) (a .args .reader) (labelBitIn (planFor (a .args .s)) (now (a .args .bits))) _ (sym (sound-by (a .args .s) (a .args .reader) (p .plan-of .result) (p .plan-of .ensures) (now (a .args .bits)) (k .symbol-inputs .result .sound) (k .symbol-inputs .ensures .1 .0)) ∙ c .before .if1 .left) (c .ended .ensures), refl)
 
 pub hear-bits-spec : {M : Type 1} → statement M
 hear-bits-spec =
