@@ -7,6 +7,10 @@ use borrow.Author.Needs.{needs}
 use Rattle.assembler.proofs.bytes.pack.Statement.{statement}
 use Rattle.assembler.proofs.bytes.pack.Tie as tie
 
+-- the entry
+abbrev entry : tie.After-shared-slice-known9 → tie.Start
+entry c = c .before .before .before .before .before .before .before .before .before .before
+
 shared-slice-read-nibble : tie.Need-shared-slice-read-nibble
 shared-slice-read-nibble c = search needs
 
@@ -61,7 +65,7 @@ shared-slice-read-nibble-8 c = search needs
 
 nibble-requires-2 : tie.Need-nibble-requires-2
 nibble-requires-2 c κs =
-    let start = c .before .before .before .before .before .before .before .before .before .before in
+    let start = entry c in
     let bit = start .pre .bits in
     let at = start .args .at in
     (bit (at + 4), bit (at + 5), bit (at + 6), bit (at + 7))
@@ -74,7 +78,7 @@ add-result c = search needs
 
 returns : tie.Need-returns
 returns c =
-    let start = c .before .before .before .before .before .before .before .before .before .before .before in
+    let start = entry (c .before) in
     packed-eight (λ k. getD (now (start .args .line)) k 0) (start .args .at) _ _ (c .before .before .before .before .before .nibble .ensures .0) (c .nibble2 .ensures .0)
 
 pub pack-spec : {M : Type 1} → statement M

@@ -5,6 +5,10 @@ use borrow.Author.Needs.{needs}
 use Rattle.assembler.proofs.bytes.put_line.Statement.{statement}
 use Rattle.assembler.proofs.bytes.put_line.Tie as tie
 
+-- the entry
+abbrev entry : tie.After-copy-bits → tie.Start
+entry c = c .before .before .before .before .before .before .before .before .before
+
 put-byte-requires : tie.Need-put-byte-requires
 put-byte-requires c κs = search needs
 
@@ -26,7 +30,7 @@ same-length c = search needs
 returns : tie.Need-returns
 returns c =
     let copied = c .before .before in
-    let start = copied .before .before .before .before .before .before .before .before .before in
+    let start = entry copied in
     line-symbol _ _ _ _ _ _ _ _ (start .pre) _ (copied .before .before .before .before .before .put-byte .ensures) (copied .before .before .if1 .taken) _ (copied .copy-bits .ensures)
 
 same-length-2 : tie.Need-same-length-2

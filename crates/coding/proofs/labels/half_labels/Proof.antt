@@ -7,10 +7,18 @@ use borrow.Author.Needs.{needs}
 use Rattle.coding.proofs.labels.half_labels.Statement.{statement}
 use Rattle.coding.proofs.labels.half_labels.Tie as tie
 
+-- the entry
+abbrev entry : tie.After-groups-of → tie.Start
+entry c = c .before .before .before .before .before .before .before .before .before .before
+
+-- after coder-inputs
+abbrev coder-inputs : tie.After-slice-known2 → tie.After-coder-inputs
+coder-inputs c = c .before .before .before .before .before .before .before .before .before .before .before
+
 returns : tie.Need-returns
 returns c =
-    let q = c .before .before .before .before .before .before .before .before .before .before .before .before .before .before .before .before .before .pre in
-    halves-are _ (q .fits) _ _ (c .before .before .before .before .before .before .before .before .before .before .before .coder-inputs .ensures) (rw (c .before .before .before .before .before .before .before .groups-of .ensures) at (c .before .before .before .before .before .before .coded-bits .ensures))
+    let q = entry (c .before .before .before .before .before .before .before) .pre in
+    halves-are _ (q .fits) _ _ (coder-inputs c .coder-inputs .ensures) (rw (c .before .before .before .before .before .before .before .groups-of .ensures) at (c .before .before .before .before .before .before .coded-bits .ensures))
     (c .before .before .symbol-halves .ensures)
 
 mul-inputs : tie.Need-mul-inputs
@@ -51,7 +59,7 @@ groups-of-requires c κs = search needs
 
 coded-bits-requires : tie.Need-coded-bits-requires
 coded-bits-requires c κs =
-    let q = c .before .before .before .before .before .before .before .before .before .before .pre in
+    let q = entry c .pre in
     let z = sizes _ _ (q .fits) (q .near) in
     let g = c .groups-of .ensures in
     rw g (record {

@@ -5,6 +5,10 @@ use borrow.Author.Needs.{needs}
 use Rattle.deframer.proofs.bits.descramble.Statement.{statement}
 use Rattle.deframer.proofs.bits.descramble.Tie as tie
 
+-- the entry
+abbrev entry : tie.After-take-off → tie.Start
+entry c = c .before .before .before .before .before .before .before .before
+
 slice-aggregate-scrambler-outputs : tie.Need-slice-aggregate-scrambler-outputs
 slice-aggregate-scrambler-outputs c = search needs
 
@@ -23,7 +27,7 @@ same-length c = search needs
 returns : tie.Need-returns
 returns c =
     let taken = c .before .before in
-    let start = taken .before .before .before .before .before .before .before .before in
+    let start = entry taken in
     plain-filled (now (start .args .inputs)) _ _ _ _ (start .args .state) _ (start .pre .bits) (taken .before .before .before .before .scrambler-outputs .ensures) (taken .take-off .ensures)
 
 pub descramble-spec : {M : Type 1} → statement M

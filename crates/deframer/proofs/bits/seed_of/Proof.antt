@@ -8,6 +8,10 @@ use borrow.Author.Needs.{needs}
 use Rattle.deframer.proofs.bits.seed_of.Statement.{statement}
 use Rattle.deframer.proofs.bits.seed_of.Tie as tie
 
+-- the entry
+abbrev entry : tie.After-shared-slice-known8 → tie.Start
+entry c = c .before .before .before .before .before .before .before .before .before
+
 shared-slice-read-nibble : tie.Need-shared-slice-read-nibble
 shared-slice-read-nibble c = search needs
 
@@ -36,7 +40,7 @@ shared-slice-read-nibble-7 c = search needs
 
 nibble-requires-2 : tie.Need-nibble-requires-2
 nibble-requires-2 c κs =
-    let bit = c .before .before .before .before .before .before .before .before .before .pre .1 in
+    let bit = entry c .pre .1 in
     (bit 2 (lit< tt), bit 1 (lit< tt), bit 0 (lit< tt), lit< tt)
 
 mul-jump : tie.Need-mul-jump
@@ -47,12 +51,12 @@ add-jump c = search needs
 
 jump-requires : tie.Need-jump-requires
 jump-requires c κs =
-    let bit = c .before .before .before .before .before .before .before .before .before .before .pre .1 in
+    let bit = entry (c .before) .pre .1 in
     omega (arith, bit 2 (lit< tt), bit 1 (lit< tt), bit 0 (lit< tt))
 
 returns : tie.Need-returns
 returns c =
-    let start = c .before .before .before .before .before .before .before .before .before .before .before in
+    let start = entry (c .before .before) in
     let bit = start .pre .1 in
     seed-nibbles (λ d. getD (now (start .args .inputs)) d 0) _ _ _ (c .before .before .before .before .before .nibble .ensures .0) (c .before .nibble2 .ensures .0)
     (c .before .before .before .before .before .nibble .ensures .1) (omega (arith, bit 2 (lit< tt), bit 1 (lit< tt), bit 0 (lit< tt))) (c .jump .ensures)

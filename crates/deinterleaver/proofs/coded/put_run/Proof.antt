@@ -17,6 +17,10 @@ Inv-loop coded₀ bits table shift from first count r₀ coded r =
 abbrev μ-loop : tie.MeasureT-loop
 μ-loop coded₀ bits table shift from first count r₀ coded r = count - r
 
+-- the entry
+abbrev entry : tie.After-shared-slice-known4 Inv-loop μ-loop → tie.Start Inv-loop μ-loop
+entry c = c .before .before .before .before .before .before .before .before
+
 loop-holds : tie.Need-loop-holds Inv-loop μ-loop
 loop-holds c = (search needs, scatter-none _ _ _ _)
 
@@ -42,7 +46,7 @@ shared-slice-read-coded : tie.Need-shared-slice-read-coded Inv-loop μ-loop
 shared-slice-read-coded c = search needs
 
 slice-write-coded : tie.Need-slice-write-coded Inv-loop μ-loop
-slice-write-coded c = omega (arith, c .before .source-index .ensures, c .before .before .before .before .before .before .before .before .pre .reached (c .before .before .before .before .loop .r) (c .before .before .before .loop-test .taken), c .before .before .before .before .loop .inv .1 .same)
+slice-write-coded c = omega (arith, c .before .source-index .ensures, entry c .pre .reached (c .before .before .before .before .loop .r) (c .before .before .before .loop-test .taken), c .before .before .before .before .loop .inv .1 .same)
 
 add-r : tie.Need-add-r Inv-loop μ-loop
 add-r c = search needs
@@ -51,7 +55,7 @@ loop-less : tie.Need-loop-less Inv-loop μ-loop
 loop-less c = search needs
 
 loop-again : tie.Need-loop-again Inv-loop μ-loop
-loop-again c = (search needs, run-more _ _ (c .before .before .before .before .before .before .before .before .pre) (c .before .before .before .loop-test .taken) (c .before .source-index .ensures) (c .before .before .before .before .loop .inv .1))
+loop-again c = (search needs, run-more _ _ (entry c .pre) (c .before .before .before .loop-test .taken) (c .before .source-index .ensures) (c .before .before .before .before .loop .inv .1))
 
 same-length : tie.Need-same-length Inv-loop μ-loop
 same-length c = search needs

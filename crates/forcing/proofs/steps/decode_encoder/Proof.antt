@@ -22,6 +22,18 @@ Inv-loop inputs₀ coded history kept groups base encoders j stride h₀ g₀ i�
 abbrev μ-loop : tie.MeasureT-loop
 μ-loop inputs₀ coded history kept groups base encoders j stride h₀ g₀ i₀ to₀ bad₀ inputs h g i to bad = groups - g
 
+-- the entry
+abbrev entry : tie.After-shared-slice-known3 Inv-loop μ-loop → tie.Start Inv-loop μ-loop
+entry c = c .before .before .before .before .before .before .before .before
+
+-- the loop's turn
+abbrev loop-turn : tie.After-slice-known2 Inv-loop μ-loop → tie.In-loop Inv-loop μ-loop
+loop-turn c = c .before .before .before .before .before .before .before .before .before
+
+-- the loop's head
+abbrev loop-head : tie.After-slice-known2 Inv-loop μ-loop → tie.At-loop Inv-loop μ-loop
+loop-head c = c .before .before .before .before .before .before .before .before .before .before
+
 sub-stride : tie.Need-sub-stride Inv-loop μ-loop
 sub-stride c = let a = c .before .before in omega (arith, kept-low (a .args .kept) (a .pre .rate))
 
@@ -44,7 +56,7 @@ sum-after-requires-2 : tie.Need-sum-after-requires-2 Inv-loop μ-loop
 sum-after-requires-2 c κs = search needs
 
 shared-slice-read-differ : tie.Need-shared-slice-read-differ Inv-loop μ-loop
-shared-slice-read-differ c = omega (arith, turn (c .before .before .before .before .before .before .before .before .pre) (c .before .before .before .before .loop-test .taken) (c .before .before .before .before .before .loop .inv .3) (c .before .before .before .before .before .loop .inv .4))
+shared-slice-read-differ c = omega (arith, turn (entry c .pre) (c .before .before .before .before .loop-test .taken) (c .before .before .before .before .before .loop .inv .3) (c .before .before .before .before .before .loop .inv .4))
 
 differ-requires : tie.Need-differ-requires Inv-loop μ-loop
 differ-requires c κs = search needs
@@ -53,13 +65,13 @@ add-bad : tie.Need-add-bad Inv-loop μ-loop
 add-bad c = search needs
 
 group-requires : tie.Need-group-requires Inv-loop μ-loop
-group-requires c κs = group-asked (c .before .before .before .before .before .before .before .before .before .before .pre) (c .before .before .before .before .before .before .loop-test .taken) (c .before .before .before .before .before .before .before .loop .inv .1) (c .before .before .before .before .before .before .before .loop .inv .3) (c .before .before .before .before .before .before .before .loop .inv .4)
+group-requires c κs = group-asked (entry (c .before .before) .pre) (c .before .before .before .before .before .before .loop-test .taken) (c .before .before .before .before .before .before .before .loop .inv .1) (c .before .before .before .before .before .before .before .loop .inv .3) (c .before .before .before .before .before .before .before .loop .inv .4)
 
 add-i : tie.Need-add-i Inv-loop μ-loop
-add-i c = omega (arith, turn (c .before .before .before .before .before .before .before .before .before .before .before .before .before .pre) (c .before .before .before .before .before .before .before .before .before .loop-test .taken) (c .before .before .before .before .before .before .before .before .before .before .loop .inv .3) (c .before .before .before .before .before .before .before .before .before .before .loop .inv .4))
+add-i c = omega (arith, turn (entry (c .before .before .before .before .before) .pre) (loop-turn c .loop-test .taken) (loop-head c .loop .inv .3) (loop-head c .loop .inv .4))
 
 add-to : tie.Need-add-to Inv-loop μ-loop
-add-to c = omega (arith, turn (c .before .before .before .before .before .before .before .before .before .before .before .before .before .pre) (c .before .before .before .before .before .before .before .before .before .loop-test .taken) (c .before .before .before .before .before .before .before .before .before .before .loop .inv .3) (c .before .before .before .before .before .before .before .before .before .before .loop .inv .4))
+add-to c = omega (arith, turn (entry (c .before .before .before .before .before) .pre) (loop-turn c .loop-test .taken) (loop-head c .loop .inv .3) (loop-head c .loop .inv .4))
 
 add-g : tie.Need-add-g Inv-loop μ-loop
 add-g c = search needs
@@ -69,9 +81,9 @@ loop-less c = search needs
 
 loop-again : tie.Need-loop-again Inv-loop μ-loop
 loop-again c =
-    let p = c .before .before .before .before .before .before .before .before .before .before .before .before .before .pre in
-    let l = c .before .before .before .before .before .before .before .before .before .before .loop in
-    let h = c .before .before .before .before .before .before .before .before .before .loop-test .taken in
+    let p = entry (c .before .before .before .before .before) .pre in
+    let l = loop-head c .loop in
+    let h = loop-turn c .loop-test .taken in
     let s = c .before .before .before .before .before .before .before .sum-after .ensures in
     let o = c .before .before .before .before .before .before .sum-after2 .ensures in
     let w = c .before .before .before .before .differ .ensures in (

@@ -8,6 +8,10 @@ use Rattle.inputs.proofs.Mixing.{line-filled}
 use Rattle.inputs.proofs.line.coder_inputs.Statement.{statement}
 use Rattle.inputs.proofs.line.coder_inputs.Tie as tie
 
+-- the entry
+abbrev entry : tie.After-scrambled-inputs-arg → tie.Start
+entry c = c .before .before .before .before .before .before .before .before
+
 returns : tie.Need-returns
 returns c =
     let last = c .before .before in
@@ -41,7 +45,7 @@ sub-scrambled-inputs c = search needs
 
 scrambled-inputs-requires : tie.Need-scrambled-inputs-requires
 scrambled-inputs-requires c κs =
-    let two = encoders-most (c .before .before .before .before .before .before .before .before .args .encoders) (c .before .before .before .before .before .before .before .before .pre .one-or-two) in
+    let two = encoders-most (entry c .args .encoders) (entry c .pre .one-or-two) in
     record {
       room = omega arith;
       few = omega arith;

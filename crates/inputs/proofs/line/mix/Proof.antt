@@ -6,13 +6,21 @@ use borrow.Author.Needs.{needs}
 use Rattle.inputs.proofs.line.mix.Statement.{statement}
 use Rattle.inputs.proofs.line.mix.Tie as tie
 
+-- after add-outputs
+abbrev add-outputs : tie.After-slice-known4 → tie.After-add-outputs
+add-outputs c = c .before .before .before .before .before .before .before .before .before .before
+
+-- the entry
+abbrev entry : tie.After-slice-known4 → tie.Start
+entry c = c .before .before .before .before .before .before .before .before .before .before .before .before .before .before .before
+
 returns : tie.Need-returns
 returns c =
-    let start = c .before .before .before .before .before .before .before .before .before .before .before .before .before .before .before in
+    let start = entry c in
     let a = start .args in
     mixed-parts (now (a .raw)) (now (a .outputs)) (a .skip) (a .tail) (a .pad) (a .count) (start .pre .ordered) (start .pre .ends)
     (start .pre .raw-bits) (start .pre .out-bits) (a .to)
-    (c .before .before .before .before .before .before .before .before .before .before .add-outputs .ensures) (c .before .before .before .before .before .before .clear .ensures) (c .before .before .add-outputs2 .ensures) (omega arith)
+    (add-outputs c .add-outputs .ensures) (c .before .before .before .before .before .before .clear .ensures) (c .before .before .add-outputs2 .ensures) (omega arith)
 
 add-outputs-requires : tie.Need-add-outputs-requires
 add-outputs-requires c κs = search needs

@@ -9,12 +9,16 @@ use Rattle.inputs.proofs.Mixing.{inputs-filled}
 use Rattle.inputs.proofs.line.scrambled_inputs.Statement.{statement}
 use Rattle.inputs.proofs.line.scrambled_inputs.Tie as tie
 
+-- the entry
+abbrev entry : tie.After-scrambler-outputs → tie.Start
+entry c = c .before .before .before .before .before .before .before .before
+
 returns : tie.Need-returns
 returns c =
     let last = c .before .before in
     let marks = last .before .before .before .before in
     let out = marks .before .before .before in
-    let a = out .before .before .before .before .before .before .before .before .args in
+    let a = entry out .args in
     inputs-filled (now (a .payload)) _ _ _ _ _ _ (a .bytes) (a .encoders) (a .seed) (a .to) (a .start) (a .count) _ _ _
     (out .before .before .before .before .data-bits .ensures) (out .before .jump .ensures) (out .scrambler-outputs .ensures)
     (marks .before .below-mark .ensures) (marks .below-mark2 .ensures) (last .mix .ensures)

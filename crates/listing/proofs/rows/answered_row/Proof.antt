@@ -6,6 +6,10 @@ use borrow.Author.Needs.{needs}
 use Rattle.listing.proofs.rows.answered_row.Statement.{statement}
 use Rattle.listing.proofs.rows.answered_row.Tie as tie
 
+-- after inputs-row
+abbrev inputs-row : tie.After-accepted-row → tie.After-inputs-row
+inputs-row c = c .before .before .before .before .before .before .before .before
+
 inputs-row-requires : tie.Need-inputs-row-requires
 inputs-row-requires c κs = search needs
 
@@ -46,7 +50,7 @@ returns c =
 
 returns-2 : tie.Need-returns-2
 returns-2 c =
-    row-accepted _ _ _ _ _ _ (c .before .before .before .before .before .before .before .raw-for .result) (c .before .before .before .before .before .before .before .before .inputs-row .ensures .0) (c .before .before .before .before .before .before .before .raw-for .ensures)
+    row-accepted _ _ _ _ _ _ (c .before .before .before .before .before .before .before .raw-for .result) (inputs-row c .inputs-row .ensures .0) (c .before .before .before .before .before .before .before .raw-for .ensures)
     _ _ (sym (c .before .before .before .before .n .given .1) ∙ c .before .before .before .before .before .before .symbol-count .ensures) (c .before .before .sig-bytes .ensures) (c .accepted-row .ensures)
 
 pub answered-row-spec : {M : Type 1} → statement M

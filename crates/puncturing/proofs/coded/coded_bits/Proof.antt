@@ -5,23 +5,35 @@ use Rattle.puncturing.proofs.CodedLaws.{sizes, place-inside, picked, on
 use Rattle.puncturing.proofs.coded.coded_bits.Statement.{statement}
 use Rattle.puncturing.proofs.coded.coded_bits.Tie as tie
 
+-- after sum-places
+abbrev sum-places : tie.Else1 → tie.After-sum-places
+sum-places c = c .before .before .before .before .before .before .before .before
+
+-- after pick
+abbrev pick : tie.After-slice-known3 → tie.After-pick
+pick c = c .before .before .before .before .before .before .before .before .before
+
+-- after sum-places
+abbrev sum-places-from-places4 : tie.After-places4 → tie.After-sum-places
+sum-places-from-places4 c = c .before .before .before .before .before .before .before .before .before .before .before
+
 -- the start of the call whose places are made
 abbrev start : tie.After-sum-places → tie.Start
 start c = c .before .before .before .before .before .before .before
 
 returns : tie.Need-returns
 returns c =
-    let f = c .before .before .before .before .before .before .before .before .before .before .before .before .before .before in
+    let f = sum-places-from-places4 (c .before .before .before) in
     let p = start f .pre in
     let s = f .before .before .before .both-sums .ensures in
     two-coded _ _ _ _ _ p (c .before .before .before .before .before .before .if1 .taken)
     (picked _ _ _ _ _ p s (f .sum-places .ensures) 0 0 _ (omega (arith, sizes p)) (omega arith)
-    (c .before .before .before .before .before .before .before .before .before .pick .ensures))
+    (pick c .pick .ensures))
     (picked _ _ _ _ _ p s (f .sum-places .ensures) 1296 1 _ (omega arith) (omega arith) (c .before .before .pick2 .ensures))
 
 returns-2 : tie.Need-returns-2
 returns-2 c =
-    let f = c .before .before .before .before .before .before .before .before in
+    let f = sum-places c in
     let p = start f .pre in
     one-coded _ _ _ _ _ p (sizes p .otherwise (c .if1 .left))
     (picked _ _ _ _ _ p (f .before .before .before .both-sums .ensures) (f .sum-places .ensures) 0 0 _ (omega (arith, sizes p)) (omega arith)
@@ -42,7 +54,7 @@ pick-requires c κs =
 
 pick-requires-2 : tie.Need-pick-requires-2
 pick-requires-2 c κs =
-    let f = c .before .before .before .before .before .before .before .before .before .before .before in
+    let f = sum-places-from-places4 c in
     let p = start f .pre in
     let h = sizes p .halved (c .before .before .before .if1 .taken) in
     record {
