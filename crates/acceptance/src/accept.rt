@@ -1,5 +1,6 @@
 // One step of the reader from a symbol's inputs on: its data bits, its bytes, its answer and the state after it.
 use assembler::bytes::put_payload;
+use chain::plan::MOST_DATA;
 use deframer::bits::descramble;
 use deframer::bits::is_framed;
 use deframer::bits::seed_of;
@@ -118,7 +119,7 @@ pub fn hear_inputs(
 {
     let plan = plan_of(s);
     let scrambler = scrambler_for(reader, inputs);
-    let mut plain = [0u8; 2160];
+    let mut plain = [0u8; MOST_DATA];
     descramble(&mut plain, inputs, scrambler, plan.dbps);
     let right = is_right(s, reader.symbol, scrambler, inputs, &plain);
     if right {

@@ -72,6 +72,20 @@ pub record Planned (w m e : ℕ) : Type 0 where
 abbrev pub groupsOf : Plan → ℕ
 groupsOf p = p .coded / (p .encoders * p .kept)
 
+-- the most that a symbol has, with four streams of 64-QAM at 40 MHz: N_CBPSS, N_CBPS, and at rate 5/6 N_DBPS; and that many data bits with the last six steps of
+-- two encoders before them
+abbrev pub mostBlock : ℕ
+mostBlock = 648
+
+abbrev pub mostCoded : ℕ
+mostCoded = 2592
+
+abbrev pub mostData : ℕ
+mostData = 2160
+
+abbrev pub mostLine : ℕ
+mostLine = 2172
+
 -- what holds of every plan; all that the layers above ask of one
 pub record Fits (p : Plan) : Type 0 where
   pub width : T (among widths (p .width))
@@ -83,8 +97,8 @@ pub record Fits (p : Plan) : Type 0 where
   pub block-is : p .block ≡ p .carriers * p .bits
   pub coded-is : p .coded ≡ p .block * p .streams
   pub dbps-some : 26 ≤ p .dbps
-  pub dbps-most : p .dbps ≤ 2160
-  pub coded-most : p .coded ≤ 2592
+  pub dbps-most : p .dbps ≤ mostData
+  pub coded-most : p .coded ≤ mostCoded
   -- a symbol is a whole number of puncturing groups of each encoder
   pub coded-groups : p .coded ≡ p .encoders * (p .kept * groupsOf p)
   pub dbps-groups : p .dbps ≡ p .encoders * ((p .kept - 1) * groupsOf p)

@@ -24,6 +24,19 @@ pub struct Plan {
     pub dbps: usize,
 }
 
+// The most that a symbol has, with four streams of 64-QAM at 40 MHz: coded bits of a stream (N_CBPSS), coded bits (N_CBPS), and at rate 5/6 data bits (N_DBPS).
+pub const MOST_BLOCK: usize = 648;
+
+pub const MOST_CODED: usize = 2592;
+
+pub const MOST_DATA: usize = 2160;
+
+// As many data bits with the last six steps of two encoders before them.
+pub const MOST_LINE: usize = 2172;
+
+// Half labels, two a carrier.
+pub const MOST_HALVES: usize = 864;
+
 const BITS: [usize; 8] = [1, 2, 2, 4, 4, 6, 6, 6];
 
 const RATE_STEPS: [usize; 8] = [1, 1, 3, 1, 3, 2, 3, 5];

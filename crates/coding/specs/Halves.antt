@@ -5,7 +5,7 @@ use Prim.Native.Nat.{ℕ, _+_, _*_, _%_, _<_, _≤_}
 use lib.Dec.{T}
 use lib.ListN.{length, getD}
 use Rattle.laws.specs.Test.{among}
-use Rattle.chain.specs.Plan.{Fits, axisCounts}
+use Rattle.chain.specs.Plan.{Fits, axisCounts, mostCoded, mostBlock}
 use Rattle.chain.specs.declared.plan.Plan.{Plan}
 use Rattle.chain.specs.Parser.{axisBits}
 use Rattle.chain.specs.Interleaver.{source}
@@ -25,13 +25,13 @@ halfIn p coded i m = written (labelIn p coded i) (m * axisBits (p .bits)) (axisB
 
 pub record HalfAsked (coded table : List ℕ) (s shift m : ℕ) : Type 0 where
   pub axis : T (among axisCounts s)
-  pub few : m < 648
+  pub few : m < mostBlock
   pub inside : (t : ℕ) → t < s → m * s + t < length table
   pub reached : (t : ℕ) → t < s → getD table (m * s + t) 0 + shift < length coded
 
 pub record HalfRunAsked (halves coded table : List ℕ) (s shift to from count : ℕ) : Type 0 where
   pub axis : T (among axisCounts s)
-  pub few : from + count ≤ 648
+  pub few : from + count ≤ mostBlock
   pub room : to + count ≤ length halves
   pub near : to + count ≤ 864
   pub inside : (from + count) * s ≤ length table
@@ -41,13 +41,13 @@ pub record HalfRunAsked (halves coded table : List ℕ) (s shift to from count :
 pub record HalvesAsked (halves coded : List ℕ) (p : Plan) : Type 0 where
   pub fits : Fits p
   pub room : p .streams * halvesOf p ≤ length halves
-  pub sized : length coded ≡ 2592
+  pub sized : length coded ≡ mostCoded
 
 -- the same, with the table of label sources at hand, for stream i
 pub record HalfStreamAsked (halves coded table : List ℕ) (p : Plan) (i : ℕ) : Type 0 where
   pub fits : Fits p
   pub room : p .streams * halvesOf p ≤ length halves
-  pub sized : length coded ≡ 2592
+  pub sized : length coded ≡ mostCoded
   pub stream : i < p .streams
   pub wide-enough : p .block ≤ length table
   pub tabled : (r : ℕ) → r < p .block → getD table r 0 ≡ labelSource p r

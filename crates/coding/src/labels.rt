@@ -1,4 +1,7 @@
 // The half labels of a symbol, stream by stream.
+use chain::plan::MOST_BLOCK;
+use chain::plan::MOST_CODED;
+use chain::plan::MOST_LINE;
 use chain::plan::Plan;
 use chain::plan::axis_bits;
 use inputs::line::coder_inputs;
@@ -96,7 +99,7 @@ fn symbol_halves(halves: &mut [u8], coded: &[u8], plan: Plan)
     requires { ⌜ HalvesAsked (now halves) (now coded) plan ⌝ }
     ensures { λ _. ⌜ HalvesFilled plan (halfIn plan (now (coded .entry))) (plan .streams) (now (halves .entry)) (now (halves .exit)) ⌝ }
 {
-    let mut table = [0u16; 648];
+    let mut table = [0u16; MOST_BLOCK];
     label_sources(&mut table, plan);
     let streams = plan.streams;
     let mut i: usize = 0;
@@ -119,8 +122,8 @@ pub fn half_labels(halves: &mut [u8], payload: &[u8], bytes: usize, seed: u8, pl
     requires { ⌜ LabelsAsked (now halves) (now payload) bytes seed plan n ⌝ }
     ensures { λ _. ⌜ HalvesFilled plan (halfLabel plan (coderInput (payloadBit (now (payload .entry))) bytes (plan .encoders) seed) n) (plan .streams) (now (halves .entry)) (now (halves .exit)) ⌝ }
 {
-    let mut line = [0u8; 2172];
-    let mut coded = [0u8; 2592];
+    let mut line = [0u8; MOST_LINE];
+    let mut coded = [0u8; MOST_CODED];
     let encoders = plan.encoders;
     let inputs = plan.dbps + 6 * encoders;
     coder_inputs(

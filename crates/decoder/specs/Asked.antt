@@ -7,7 +7,7 @@ use lib.Dec.{T, ltb}
 use lib.ListN.{length, getD}
 use Rattle.laws.specs.Test.{among}
 use Rattle.laws.specs.Filled.{Filled}
-use Rattle.chain.specs.Plan.{encoderCounts, keptCounts}
+use Rattle.chain.specs.Plan.{encoderCounts, keptCounts, mostCoded}
 use Rattle.chain.specs.Decoder.{forcedHistory, inputsOf, checks}
 use Rattle.deinterleaver.specs.Deinterleaved.{codedOf}
 
@@ -16,8 +16,8 @@ pub record EncodersAsked (inputs coded histories : List ℕ) (encoders kept grou
   pub rate : T (among keptCounts kept)
   pub few : groups ≤ 1296
   pub six-bits : (j : ℕ) → j < 2 → getD histories j 0 < 64
-  pub sized : length coded ≡ 2592
-  pub source : encoders * (kept * groups) ≤ 2592
+  pub sized : length coded ≡ mostCoded
+  pub source : encoders * (kept * groups) ≤ mostCoded
   pub room : encoders * ((kept - 1) * groups) ≤ length inputs
   pub one-bit : (j y : ℕ) → j < encoders → y < kept * groups → codedOf coded j y < 2
 

@@ -1,4 +1,5 @@
 // The inputs that a symbol's coded bits force, all encoders together.
+use chain::plan::MOST_CODED;
 use chain::plan::Plan;
 use coding::labels::groups_of;
 use deinterleaver::coded::symbol_coded;
@@ -52,7 +53,7 @@ pub fn symbol_inputs(inputs: &mut [u8], bits: &[u8], plan: Plan, histories: [u8;
     ensures { λ r. ⌜ r .sound ≡ decodes plan (historiesIn histories) (labelBitIn plan (now (bits .entry))) ⌝ }
     ensures { λ r. ⌜ r .histories ≡ historyMoved plan (historiesIn histories) (decodedInput plan (historiesIn histories) (labelBitIn plan (now (bits .entry)))) 0 ∷ (historyMoved plan (historiesIn histories) (decodedInput plan (historiesIn histories) (labelBitIn plan (now (bits .entry)))) 1 ∷ []) ⌝ }
 {
-    let mut coded = [0u8; 2592];
+    let mut coded = [0u8; MOST_CODED];
     symbol_coded(&mut coded, bits, plan);
     decode_symbol(
         inputs,

@@ -1,4 +1,5 @@
 // Seed, descrambling, and whether service, tail and pad are right.
+use chain::plan::MOST_DATA;
 use data_bits::bits::below_mark;
 use scrambler::outputs::scrambler_outputs;
 use scrambler::register::jump;
@@ -46,7 +47,7 @@ pub fn descramble(plain: &mut [u8], inputs: &[u8], state: u8, count: usize)
     requires { ⌜ PlainAsked (now plain) (now inputs) state count ⌝ }
     ensures { λ _. ⌜ Filled 0 0 (plainBit state (λ d. getD (now (inputs .entry)) d 0)) count (now (plain .entry)) (now (plain .exit)) ⌝ }
 {
-    let mut outputs = [0u8; 2160];
+    let mut outputs = [0u8; MOST_DATA];
     scrambler_outputs(&mut outputs, state, count);
     take_off(plain, inputs, &outputs, count);
 }

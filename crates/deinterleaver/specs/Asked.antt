@@ -4,7 +4,7 @@ use mathlib.Core.List.{List}
 use Prim.Native.Nat.{ℕ, _+_, _*_, _<_, _≤_}
 use lib.ListN.{length, getD}
 use Rattle.chain.specs.declared.plan.Plan.{Plan}
-use Rattle.chain.specs.Plan.{Fits}
+use Rattle.chain.specs.Plan.{Fits, mostCoded, mostBlock}
 use Rattle.chain.specs.Labels.{share}
 use Rattle.chain.specs.Statements.{codedStream}
 use Rattle.chain.specs.Decoder.{codedIn}
@@ -12,9 +12,9 @@ use Rattle.sources.specs.Sources.{labelSource}
 use Rattle.deinterleaver.specs.Deinterleaved.{labelBitIn, codedOf}
 
 pub record CodedRunAsked (coded bits table : List ℕ) (shift from first count : ℕ) : Type 0 where
-  pub few : first + count ≤ 648
-  pub near : from + count ≤ 2592
-  pub sized : length coded ≡ 2592
+  pub few : first + count ≤ mostBlock
+  pub near : from + count ≤ mostCoded
+  pub sized : length coded ≡ mostCoded
   pub inside : first + count ≤ length table
   pub whole-bits : from + count ≤ length bits
   pub reached : (k : ℕ) → k < count → getD table (first + k) 0 + shift < length coded
@@ -23,7 +23,7 @@ pub record CodedRunAsked (coded bits table : List ℕ) (shift from first count :
 -- with the table of label sources at hand, for stream i
 pub record CodedStreamAsked (coded bits table : List ℕ) (p : Plan) (i : ℕ) : Type 0 where
   pub fits : Fits p
-  pub sized : length coded ≡ 2592
+  pub sized : length coded ≡ mostCoded
   pub whole-bits : p .streams * p .block ≤ length bits
   pub stream : i < p .streams
   pub wide-enough : p .block ≤ length table
@@ -31,7 +31,7 @@ pub record CodedStreamAsked (coded bits table : List ℕ) (p : Plan) (i : ℕ) :
 
 pub record SymbolCodedAsked (coded bits : List ℕ) (p : Plan) : Type 0 where
   pub fits : Fits p
-  pub sized : length coded ≡ 2592
+  pub sized : length coded ≡ mostCoded
   pub whole-bits : p .streams * p .block ≤ length bits
 
 -- the coded bits of the first streams are their label bits'

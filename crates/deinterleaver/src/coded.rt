@@ -1,4 +1,5 @@
 // The coded bits of a symbol from its label bits: each label bit goes to the place that the table of the sending side reads it from.
+use chain::plan::MOST_BLOCK;
 use chain::plan::Plan;
 use chain::plan::axis_bits;
 use coding::labels::rotated_carriers;
@@ -50,7 +51,7 @@ pub fn symbol_coded(coded: &mut [u8], bits: &[u8], plan: Plan)
     requires { ⌜ SymbolCodedAsked (now coded) (now bits) plan ⌝ }
     ensures { λ _. ⌜ Placed plan (now (bits .entry)) (plan .streams) (now (coded .entry)) (now (coded .exit)) ⌝ }
 {
-    let mut table = [0u16; 648];
+    let mut table = [0u16; MOST_BLOCK];
     label_sources(&mut table, plan);
     let streams = plan.streams;
     let mut i: usize = 0;

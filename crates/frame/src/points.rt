@@ -1,4 +1,5 @@
 // The points of any one data symbol (document 01, 'From payload to points').
+use chain::plan::MOST_HALVES;
 use coding::labels::half_labels;
 use modulator::symbol::symbol_points;
 use settings::settings::Checked;
@@ -53,7 +54,7 @@ fn write_symbol(out: &mut [f32], payload: &[u8], s: Settings, n: usize)
     requires { ⌜ WriteAsked (now out) s (now payload) n ⌝ }
     ensures { λ _. ⌜ Filled nan 0 (pointFloat s (now (payload .entry)) n) (floatsOf s) (now (out .entry)) (now (out .exit)) ⌝ }
 {
-    let mut halves = [0u8; 864];
+    let mut halves = [0u8; MOST_HALVES];
     labels_of(&mut halves, payload, s, n);
     symbol_points(out, &halves, plan_of(s), s.format as usize, n);
 }

@@ -5,7 +5,7 @@ use Prim.Native.Nat.{ℕ, _+_, _%_, _<_, _≤_, _^_}
 use lib.Dec.{T, ltb}
 use lib.ListN.{length, getD}
 use Rattle.laws.specs.Test.{both, among}
-use Rattle.chain.specs.Plan.{encoderCounts}
+use Rattle.chain.specs.Plan.{encoderCounts, mostLine}
 
 -- a line of encoder inputs from place `first` on, `count` of them, of a payload's first bytes
 pub record InputsAsked (line payload : List ℕ) (bytes encoders seed first count : ℕ) : Type 0 where
@@ -16,7 +16,7 @@ pub record InputsAsked (line payload : List ℕ) (bytes encoders seed first coun
   pub seeded : seed < 128
   pub near : first ≤ 2 ^ 27
   pub some : 12 ≤ count
-  pub few : count ≤ 2172
+  pub few : count ≤ mostLine
 
 -- bit t of data bits and scrambler outputs together, the tail between two places zero
 abbrev pub mixedBit : (raw outputs : ℕ → ℕ) (tail pad t : ℕ) → ℕ
@@ -25,13 +25,13 @@ mixedBit raw outputs tail pad t = cond (both (not (ltb t tail)) (ltb t pad)) 0 (
 -- data bits from `at` on and scrambler outputs from `from` on
 pub record AddAsked (line raw outputs : List ℕ) (to at from count : ℕ) : Type 0 where
   pub room : to + count ≤ length line
-  pub few : to + count ≤ 2172
+  pub few : to + count ≤ mostLine
   pub near : at + count ≤ length raw
   pub out-near : from + count ≤ length outputs
 
 pub record MixAsked (line raw outputs : List ℕ) (to skip tail pad count : ℕ) : Type 0 where
   pub room : to + count ≤ length line
-  pub few : to + count ≤ 2172
+  pub few : to + count ≤ mostLine
   pub near : skip + count ≤ length raw
   pub skips : skip < 8
   pub out-near : count ≤ length outputs
@@ -42,7 +42,7 @@ pub record MixAsked (line raw outputs : List ℕ) (to skip tail pad count : ℕ)
 
 pub record ScrambledAsked (line payload : List ℕ) (bytes encoders seed to start count : ℕ) : Type 0 where
   pub room : to + count ≤ length line
-  pub few : to + count ≤ 2172
+  pub few : to + count ≤ mostLine
   pub whole : bytes ≤ length payload
   pub short : bytes ≤ 65535
   pub at-most-two : encoders ≤ 2

@@ -1,4 +1,5 @@
 // The encoders' input line from any place on: histories, service, payload, tail and pad.
+use chain::plan::MOST_LINE;
 use data_bits::bits::below_mark;
 use data_bits::bits::data_bits;
 use scrambler::outputs::scrambler_outputs;
@@ -77,7 +78,7 @@ fn scrambled_inputs(
     ensures { λ _. ⌜ Filled 0 to (λ t. coderInput (payloadBit (now (payload .entry))) bytes encoders seed (start + t)) count (now (line .entry)) (now (line .exit)) ⌝ }
 {
     let mut raw = [0u8; 2184];
-    let mut outputs = [0u8; 2172];
+    let mut outputs = [0u8; MOST_LINE];
     let skip = start % 8;
     data_bits(&mut raw, payload, bytes, start / 8, (skip + count + 7) / 8);
     scrambler_outputs(&mut outputs, jump(seed, start), count);

@@ -1,5 +1,7 @@
 // The published values of IEEE 802.11 that the coding chain reaches, printed one a line: the scrambler's period from seed 127, and of Annex G's
 // message (100 bytes, seed 93, 16-QAM at rate 3/4) the first 48 encoder inputs and the first 192 coded bits.
+use chain::plan::MOST_CODED;
+use chain::plan::MOST_LINE;
 use inputs::line::coder_inputs;
 use libc::STDOUT_FILENO;
 use puncturing::coded::coded_bits;
@@ -131,10 +133,10 @@ fn main() {
     scrambler_outputs(&mut outputs, 127, 127);
     print_bits(&outputs, 0, 127);
     let message = MESSAGE;
-    let mut line = [0u8; 2172];
+    let mut line = [0u8; MOST_LINE];
     coder_inputs(&mut line, &message, 100, 1, 93, 0, 162);
     print_bits(&line, 6, 48);
-    let mut coded = [0u8; 2592];
+    let mut coded = [0u8; MOST_CODED];
     coded_bits(&mut coded, &line, 1, 4, 52);
     print_bits(&coded, 0, 192);
 }

@@ -6,7 +6,7 @@ use Prim.Native.Nat.{ℕ, _+_, _-_, _*_, _/_, _%_, _<_, _≤_}
 use lib.Dec.{T}
 use lib.ListN.{length, getD}
 use Rattle.laws.specs.Test.{among}
-use Rattle.chain.specs.Plan.{encoderCounts, keptCounts}
+use Rattle.chain.specs.Plan.{encoderCounts, keptCounts, mostCoded}
 use Rattle.chain.specs.Puncture.{lineKept}
 
 -- the sum that kept bit y of encoder 0 is, as a place among the sums: A for even places of the pattern, B for odd ones
@@ -16,17 +16,17 @@ sumPlace kept encoders y = 2160 * (y % kept % 2) + encoders * ((kept - 1) * (y /
 pub record PlaceAsked (kept encoders y : ℕ) : Type 0 where
   pub rate : T (among keptCounts kept)
   pub at-most-two : encoders ≤ 2
-  pub few : y < 2592
+  pub few : y < mostCoded
 
 pub record PlacesAsked (places : List ℕ) (kept encoders count : ℕ) : Type 0 where
   pub rate : T (among keptCounts kept)
   pub at-most-two : encoders ≤ 2
-  pub few : count ≤ 2592
+  pub few : count ≤ mostCoded
   pub room : count ≤ length places
 
 pub record PickAsked (coded sums places : List ℕ) (to j count : ℕ) : Type 0 where
   pub room : to + count ≤ length coded
-  pub few : to + count ≤ 2592
+  pub few : to + count ≤ mostCoded
   pub sized : length sums ≡ 4320
   pub second : j < 2
   pub near : count ≤ length places
@@ -36,8 +36,8 @@ pub record PickAsked (coded sums places : List ℕ) (to j count : ℕ) : Type 0 
 pub record CodedAsked (coded line : List ℕ) (encoders kept groups : ℕ) : Type 0 where
   pub one-or-two : T (among encoderCounts encoders)
   pub rate : T (among keptCounts kept)
-  pub room : length coded ≡ 2592
-  pub fits : encoders * (kept * groups) ≤ 2592
+  pub room : length coded ≡ mostCoded
+  pub fits : encoders * (kept * groups) ≤ mostCoded
   pub inputs : encoders * ((kept - 1) * groups) ≤ 2160
   pub near : encoders * ((kept - 1) * groups) + 6 * encoders ≤ length line
   pub bits : (e : ℕ) → e < encoders * ((kept - 1) * groups) + 6 * encoders → getD line e 0 < 2

@@ -1,4 +1,5 @@
 // Puncturing: where among the sums each kept bit stands, and the coded bits of a symbol.
+use chain::plan::MOST_CODED;
 use encoder::sums::both_sums;
 ghost use mathlib.Core.Path.{_≡_};
 ghost use Prim.Native.Nat.{_+_, _*_};
@@ -52,7 +53,7 @@ pub fn coded_bits(coded: &mut [u8], line: &[u8], encoders: usize, kept: usize, g
     ensures { λ _. ⌜ Coded (λ e. getD (now (line .entry)) e 0) encoders kept (kept * groups) (now (coded .entry)) (now (coded .exit)) ⌝ }
 {
     let mut sums = [0u8; 4320];
-    let mut places = [0u16; 2592];
+    let mut places = [0u16; MOST_CODED];
     let share = kept * groups;
     both_sums(&mut sums, line, encoders, encoders * ((kept - 1) * groups));
     sum_places(&mut places, kept as u16, encoders as u16, share as u16);

@@ -1,4 +1,5 @@
 // What one subcarrier of one stream carries in a symbol (document 01, the one-subcarrier question).
+use chain::plan::MOST_HALVES;
 use chain::plan::axis_bits;
 use frame::points::labels_of;
 use mapper::point::Point;
@@ -55,7 +56,7 @@ fn point_at(payload: &[u8], s: Settings, n: usize, i: usize, c: usize) -> Point
     requires { ⌜ InFrame s (now payload) n × ((i < planFor s .streams) × (c < planFor s .carriers)) ⌝ }
     ensures { λ r. ⌜ r ≡ pointOf (carrierLevels (planFor s .bits) (labelsOf s (now (payload .entry)) n i) c) ⌝ }
 {
-    let mut halves = [0u8; 864];
+    let mut halves = [0u8; MOST_HALVES];
     labels_of(&mut halves, payload, s, n);
     let plan = plan_of(s);
     let bits_of_axis = axis_bits(plan.bits);

@@ -2,6 +2,8 @@
 use acceptance::accept::StepAnswer;
 use acceptance::accept::Stepped;
 use acceptance::accept::hear_inputs;
+use chain::plan::MOST_CODED;
+use chain::plan::MOST_DATA;
 use decoder::forced::symbol_inputs;
 use detector::search::Search;
 use detector::search::symbol_bits;
@@ -31,7 +33,7 @@ fn hear_bits(reader: Reader, s: Settings, bits: &[u8], payload: &mut [u8]) -> St
     ensures { λ r. ⌜ r ≡ byCode s reader (labelBitIn (planFor s) (now (bits .entry))) ⌝ }
     ensures { λ r. ⌜ now (payload .exit) ≡ stepIntoBy (r .answer) (bytesInto s reader (heardInput s reader (labelBitIn (planFor s) (now (bits .entry)))) (now (payload .entry))) (now (payload .entry)) ⌝ }
 {
-    let mut inputs = [0u8; 2160];
+    let mut inputs = [0u8; MOST_DATA];
     let histories = reader.histories;
     let decoded = symbol_inputs(&mut inputs, bits, plan_of(s), histories);
     let sound = decoded.sound;
@@ -51,7 +53,7 @@ fn hear_points(reader: Reader, s: Settings, points: &[f32], payload: &mut [u8]) 
     ensures { λ r. ⌜ r ≡ bySearch (searchOf (planFor s) (now (points .entry)) (s .format) (reader .symbol)) s reader (now (points .entry)) ⌝ }
     ensures { λ r. ⌜ now (payload .exit) ≡ stepIntoBy (r .answer) (bytesInto s reader (heardInput s reader (shownBit (planFor s) (now (points .entry)))) (now (payload .entry))) (now (payload .entry)) ⌝ }
 {
-    let mut bits = [0u8; 2592];
+    let mut bits = [0u8; MOST_CODED];
     let found = symbol_bits(
         &mut bits,
         points,

@@ -1,4 +1,5 @@
 // The place of the first failing point, for a caller that a step has told of one.
+use chain::plan::MOST_CODED;
 use detector::search::Search;
 use detector::search::symbol_bits;
 use frame::points::floats_of;
@@ -37,7 +38,7 @@ pub fn place(reader: Reader, points: &[f32]) -> PlaceAnswer
     if small {
         return PlaceAnswer::Refused(Refusal::Room);
     }
-    let mut bits = [0u8; 2592];
+    let mut bits = [0u8; MOST_CODED];
     let found = symbol_bits(
         &mut bits,
         points,

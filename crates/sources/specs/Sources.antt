@@ -4,7 +4,7 @@ use Prim.Native.Nat.{ℕ, _+_, _*_, _<_, _≤_}
 use lib.Dec.{T}
 use lib.ListN.{length, getD}
 use Rattle.laws.specs.Test.{among}
-use Rattle.chain.specs.Plan.{widths, bitCounts, encoderCounts, Fits, axisCounts}
+use Rattle.chain.specs.Plan.{widths, bitCounts, encoderCounts, Fits, axisCounts, mostBlock}
 use Rattle.chain.specs.declared.plan.Plan.{Plan}
 use Rattle.chain.specs.Parser.{axisBits, encoderOf, indexOf}
 use Rattle.chain.specs.Interleaver.{blockOf, source}
@@ -26,22 +26,22 @@ pub record SourcesAsked (table : List ℕ) (width bits count : ℕ) : Type 0 whe
   pub known-width : T (among widths width)
   pub known-bits : T (among bitCounts bits)
   pub inside : count ≤ blockOf width bits
-  pub few : count ≤ 648
+  pub few : count ≤ mostBlock
   pub room : count ≤ length table
 
 pub record ParsedAsked (s streams encoders k : ℕ) : Type 0 where
   pub axis : T (among axisCounts s)
   pub few-streams : streams ≤ 4
   pub one-or-two : T (among encoderCounts encoders)
-  pub inside : k < 648
+  pub inside : k < mostBlock
 
 pub record ParseAsked (table : List ℕ) (s streams encoders count : ℕ) : Type 0 where
   pub axis : T (among axisCounts s)
   pub few-streams : streams ≤ 4
   pub one-or-two : T (among encoderCounts encoders)
-  pub few : count ≤ 648
+  pub few : count ≤ mostBlock
   pub room : count ≤ length table
-  pub inside : (r : ℕ) → r < count → getD table r 0 < 648
+  pub inside : (r : ℕ) → r < count → getD table r 0 < mostBlock
 
 pub record TableAsked (table : List ℕ) (p : Plan) : Type 0 where
   pub fits : Fits p
