@@ -7,7 +7,7 @@ use native.Mathlib.Omega.{arith}
 use borrow.Author.Tests.{lt-ltb, le-ltb}
 use lib.Dec.{T, eqb, ltb}
 use lib.ListN.{getD}
-use lib.IntN.{pos}
+use lib.IntN.{ℤ, pos, natAbs}
 use lib.Ieee.{Float, binary32, ofInt, toBits}
 use Rattle.laws.specs.Test.{among}
 use Rattle.laws.specs.Claim.{Claim, _is_, _under_, _and_, each, given, unless, Holds, sound}
@@ -16,12 +16,13 @@ use Rattle.laws.proofs.Filling.{fill-as, fill-end, fill-join}
 use Rattle.chain.specs.Plan.{bitCounts}
 use Rattle.chain.specs.Parser.{axisBits}
 use Rattle.mapper.specs.declared.point.Point.{Point}
-use Rattle.mapper.specs.Levels.{whole, levels, pointOf}
+use Rattle.mapper.specs.Levels.{whole, levels}
 use Rattle.modulator.specs.Symbol.{turnedIf}
-use Rattle.modulator.specs.Asked.{PilotWhole}
+use Rattle.modulator.specs.Asked.{pilotPoint}
+use Rattle.modulator.proofs.RunningLaws.{pilot-point-whole}
 use Rattle.demapper.specs.declared.point.PointLabels.{PointLabels}
-use Rattle.demapper.specs.Demapped.{levelLabel, negatedLabel, firstLabel, secondLabel, secondLabels, dataGiven, bitOfLabel, pointBit}
-use Rattle.demapper.specs.Asked.{PointTables, PointRead, DataHeard, PilotTested}
+use Rattle.demapper.specs.Demapped.{sameBits, levelLabel, negatedLabel, firstLabel, secondLabel, secondLabels, dataGiven, bitOfLabel, pointBit}
+use Rattle.demapper.specs.Asked.{PointTables, PointRead, DataHeard, pilotHeard}
 use Rattle.demapper.proofs.LabelLaws.{all-labels}
 
 -- zero's bits
@@ -125,15 +126,19 @@ module _ (bits s : ℕ) (known : T (among bitCounts bits)) (axis : s ≡ axisBit
       }
 
 -- a pilot's test by the bits of its point
-pub pilot-by : (sign : Float) (t : Bool) (x y : Float) (p : Point) (a a′ b b′ : ℕ) → PilotWhole sign t p
+pub pilot-by : (sign : Float) (t : Bool) (x y : Float) (p : Point) (a a′ b b′ : ℕ) → p ≡ pilotPoint sign t
     → a ≡ toBits binary32 x → a′ ≡ toBits binary32 (p .first) → b ≡ toBits binary32 y → b′ ≡ toBits binary32 (p .second)
-    → PilotTested sign t x y (eqb a a′ && eqb b b′)
-pilot-by sign t x y p a a′ b b′ pilot e e′ g g′ = λ s small same.
-    let l = turnedIf t (levels s (pos 0)) in
-    let there : p ≡ pointOf l = pilot s small same in
+    → (eqb a a′ && eqb b b′) ≡ pilotHeard sign t x y
+pilot-by sign t x y p a a′ b b′ pilot e e′ g g′ =
     ap₂ (λ (u v : Bool). u && v)
-    (ap₂ eqb e (e′ ∙ ap (λ (q : Point). toBits binary32 (q .first)) there))
-    (ap₂ eqb g (g′ ∙ ap (λ (q : Point). toBits binary32 (q .second)) there))
+    (ap₂ eqb e (e′ ∙ ap (λ (q : Point). toBits binary32 (q .first)) pilot))
+    (ap₂ eqb g (g′ ∙ ap (λ (q : Point). toBits binary32 (q .second)) pilot))
+
+-- where its sign is the float of a small whole number
+pub pilot-heard : (sign : Float) (t : Bool) (x y : Float) (s : ℤ) → natAbs s < 8 → sign ≡ whole s
+    → let l = turnedIf t (levels s (pos 0)) in
+    pilotHeard sign t x y ≡ (sameBits x (whole (l .first)) && sameBits y (whole (l .second)))
+pilot-heard sign t x y s small e = ap (λ (p : Point). sameBits x (p .first) && sameBits y (p .second)) (pilot-point-whole sign t s small e)
 
 abbrev roomClaim : Claim
 roomClaim = each bitCounts λ b. axisBits b under b + 1 and axisBits b under 4

@@ -2,16 +2,14 @@
 use mathlib.Core.Path.{_≡_}
 use mathlib.Core.Bool.{Bool, cond, _&&_}
 use mathlib.Core.List.{List, [], _∷_}
-use Prim.Native.Nat.{ℕ, _+_, _-_, _*_, _/_, _%_, _^_, _<_}
+use Prim.Native.Nat.{ℕ, _+_, _-_, _*_, _/_, _%_, _^_}
 use lib.Dec.{T, eqb, ltb}
-use lib.IntN.{ℤ, pos, natAbs}
 use lib.Ieee.{Float}
 use Rattle.laws.specs.Test.{among}
 use Rattle.laws.specs.Filled.{Filled}
 use Rattle.chain.specs.Plan.{bitCounts, axisCounts}
 use Rattle.chain.specs.Parser.{axisBits}
-use Rattle.mapper.specs.Levels.{whole, levels}
-use Rattle.modulator.specs.Symbol.{turnedIf}
+use Rattle.modulator.specs.Asked.{pilotPoint}
 use Rattle.demapper.specs.declared.point.PointLabels.{PointLabels}
 use Rattle.demapper.specs.Demapped.{sameBits, firstLabel, secondLabel, dataGiven, pointBit}
 
@@ -73,8 +71,6 @@ pub record DataHeard (bits : ℕ) (turned : Bool) (x y : Float) (at : ℕ) (r : 
   pub given : r ≡ dataGiven bits turned x y
   pub label : Filled 0 at (pointBit bits turned x y) bits out₀ out
 
--- a pilot's point, whatever whole number its sign is
-abbrev pub PilotTested : (sign : Float) (turned : Bool) (x y : Float) (r : Bool) → Type 0
-PilotTested sign turned x y r = (s : ℤ) → natAbs s < 8 → sign ≡ whole s
-    → let l = turnedIf turned (levels s (pos 0)) in
-    r ≡ (sameBits x (whole (l .first)) && sameBits y (whole (l .second)))
+-- whether (x, y) is the one point that a pilot of this sign has
+abbrev pub pilotHeard : (sign : Float) (turned : Bool) (x y : Float) → Bool
+pilotHeard sign turned x y = sameBits x (pilotPoint sign turned .first) && sameBits y (pilotPoint sign turned .second)

@@ -10,7 +10,7 @@ ghost use lib.Dec.{eqb};
 ghost use lib.ListN.{length};
 ghost use Rattle.laws.specs.Filled.{Filled};
 ghost use Rattle.demapper.specs.Demapped.{bitOfLabel, secondLabel};
-ghost use Rattle.demapper.specs.Asked.{PointTables, PointRead, DataHeard, PilotTested};
+ghost use Rattle.demapper.specs.Asked.{PointTables, PointRead, DataHeard, pilotHeard};
 
 // The labels of a point's levels, and whether it is a point of the constellation.
 pub struct PointLabels {
@@ -120,7 +120,7 @@ pub fn hear_data(
 
 // Whether (x, y) is the one point that a pilot of this sign has.
 pub fn hear_pilot(sign: f32, turned: bool, x: f32, y: f32) -> bool
-    ensures { λ r. ⌜ PilotTested sign turned x y r ⌝ }
+    ensures { λ r. ⌜ r ≡ pilotHeard sign turned x y ⌝ }
 {
     let p = pilot_point(sign, turned);
     (bits_of(x) == bits_of(p.first)) & (bits_of(y) == bits_of(p.second))

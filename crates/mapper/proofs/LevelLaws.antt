@@ -6,9 +6,9 @@ use Prim.Native.Nat.{ℕ, zero, suc, _*_, _+_, _^_, _<_}
 use native.Mathlib.Omega.{arith}
 use lib.Dec.{T, eqb, ltb, ltb→lt}
 use lib.IntN.{ℤ, pos, negsuc, negℤ, negℤ-negℤ, natAbs}
-use lib.Ieee.{Float, binary32, ofInt, ofBits, toBits, toSigned, sub, fits}
+use lib.Ieee.{Float, binary32, ofInt, ofBits, toBits, toSigned, eq, neg, fits}
 use lib.Ieee.Bits.{ofBits-toBits}
-use lib.Ieee.Fits.{ofInt-fits, sub-fits}
+use lib.Ieee.Fits.{ofInt-fits, neg-fits, cond-fits}
 use Rattle.laws.specs.Test.{among, both, both-left, both-right}
 use Rattle.laws.specs.Claim.{Claim, _is_, _and_, upTo, each, given, Holds, sound, table}
 use Rattle.laws.specs.Integers.{counted}
@@ -16,7 +16,7 @@ use Rattle.laws.proofs.Integers.{counted-same}
 use Rattle.chain.specs.Parser.{axisBits}
 use Rattle.chain.specs.Plan.{axisCounts}
 use Rattle.mapper.specs.Levels.{whole, LevelRow, oneBit, twoBits, threeBits, levelIn, levelOf, Levels, levels, carrierLevels, turned}
-use Rattle.mapper.specs.Mapped.{Small}
+use Rattle.mapper.specs.Mapped.{Small, negatedLevel}
 use Rattle.mapper.specs.Bits.{wholeBits}
 
 abbrev smallRows : List LevelRow → Bool
@@ -108,21 +108,34 @@ pub whole-told : (a b : ℤ) → natAbs a < 8 → natAbs b < 8 → toBits binary
 whole-told a b h k e =
     sym (whole-back a h) ∙ ap (toSigned 3) (same-float-bits (whole a) (whole b) (ofInt-fits binary32 a) (ofInt-fits binary32 b) e) ∙ whole-back b k
 
-abbrev turnAt : ℤ → Claim
-turnAt z = toBits binary32 (sub binary32 (whole (pos 0)) (whole z)) is toBits binary32 (whole (negℤ z))
+-- the negative of a level that is zero, and of every other
+pub negated-zero : (x : Float) → eq x (whole (pos 0)) ≡ true → whole (pos 0) ≡ negatedLevel x
+unfolding negatedLevel
+negated-zero x e = ap (λ (zero : Bool). cond zero (whole (pos 0)) (neg x)) (sym e)
 
-abbrev turnClaim : Claim
-turnClaim = upTo 8 λ n. turnAt (pos n) and turnAt (negsuc n)
+pub negated-other : (x : Float) → eq x (whole (pos 0)) ≡ false → neg x ≡ negatedLevel x
+unfolding negatedLevel
+negated-other x e = ap (λ (zero : Bool). cond zero (whole (pos 0)) (neg x)) (sym e)
 
-turns : Holds turnClaim
-unfolding sub ofInt toBits
-turns = sound turnClaim tt
+negated-fits : (x : Float) → T (fits binary32 x) → T (fits binary32 (negatedLevel x))
+unfolding negatedLevel
+negated-fits x f = cond-fits binary32 (eq x (whole (pos 0))) (whole (pos 0)) (neg x) (ofInt-fits binary32 (pos 0)) (neg-fits binary32 x f)
 
--- zero less a small whole number is its negative, with zero's sign clear
-pub zero-less : (z : ℤ) → natAbs z < 8 → sub binary32 (whole (pos 0)) (whole z) ≡ whole (negℤ z)
-zero-less z h =
-    same-float-bits _ _ (sub-fits binary32 (whole (pos 0)) (whole z)) (ofInt-fits binary32 (negℤ z))
-    (at-small (λ (y : ℤ). Holds (turnAt y)) turns z h)
+abbrev negatedAt : ℤ → Claim
+negatedAt z = toBits binary32 (negatedLevel (whole z)) is toBits binary32 (whole (negℤ z))
+
+abbrev negatedClaim : Claim
+negatedClaim = upTo 8 λ n. negatedAt (pos n) and negatedAt (negsuc n)
+
+negatives : Holds negatedClaim
+unfolding negatedLevel eq neg ofInt toBits
+negatives = sound negatedClaim tt
+
+-- the negative of a small whole number's float is the float of its negative, zero's sign clear
+pub negated-whole : (z : ℤ) → natAbs z < 8 → negatedLevel (whole z) ≡ whole (negℤ z)
+negated-whole z h =
+    same-float-bits _ _ (negated-fits (whole z) (ofInt-fits binary32 z)) (ofInt-fits binary32 (negℤ z))
+    (at-small (λ (y : ℤ). Holds (negatedAt y)) negatives z h)
 
 -- the bit patterns of the nine levels
 pub whole-bits : Holds (table wholeBits)

@@ -8,15 +8,14 @@ use borrow.Author.Tests.{eq-eqb, ne-eqb}
 use lib.Dec.{T}
 use lib.IntN.{pos}
 use lib.ListN.{length, getD}
-use lib.Ieee.{Float, nan, binary32, sub}
+use lib.Ieee.{Float, nan}
 use Rattle.laws.specs.Test.{among}
 use Rattle.laws.specs.Claim.{Claim, _is_, _under_, _and_, each, given, unless, Holds, sound}
 use Rattle.chain.specs.Plan.{bitCounts, axisCounts}
 use Rattle.chain.specs.Parser.{axisBits}
-use Rattle.mapper.specs.declared.point.Point.{Point}
 use Rattle.mapper.specs.Levels.{whole, levelOf, Levels, carrierLevels, turned, pointOf}
-use Rattle.mapper.specs.Mapped.{LevelTable, carrierHalves, PointAsked, Small}
-use Rattle.mapper.proofs.LevelLaws.{zero-less}
+use Rattle.mapper.specs.Mapped.{LevelTable, carrierHalves, PointAsked, Small, turnedPoint}
+use Rattle.mapper.proofs.LevelLaws.{negated-whole}
 
 -- f 0, .., f (n - 1)
 abbrev pub listed : (ℕ → Float) → ℕ → List Float
@@ -100,9 +99,6 @@ module _ {halves : List ℕ} {table : List Float} {bits from c : ℕ} (a : Point
       g′ ∙ ap (λ (k : ℕ). getD table (getD halves k 0) nan) next ∙ half-level (2 * c + 1) (second-half n) in
       simp (ne-eqb bits 1 n, f, f′)
 
--- zero less the second level, and the first: the turned point
-pub turns : (p : Point) (l : Levels) → Small l → p ≡ pointOf l
-    → record { first = sub binary32 (whole (pos 0)) (p .second); second = p .first } ≡ pointOf (turned l)
-turns p l h e =
-    ap (λ (q : Point). record { first = sub binary32 (whole (pos 0)) (q .second); second = q .first }) e
-    ∙ ap (λ (x : Float). record { first = x; second = whole (l .first) }) (zero-less (l .second) (h .second))
+-- the turned point of small whole numbers is the point of the turned whole numbers
+pub turned-whole : (l : Levels) → Small l → turnedPoint (pointOf l) ≡ pointOf (turned l)
+turned-whole l h = ap (λ (x : Float). record { first = x; second = whole (l .first) }) (negated-whole (l .second) (h .second))

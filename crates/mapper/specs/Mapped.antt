@@ -1,16 +1,17 @@
 -- What the mapper's functions ask and promise.
 use mathlib.Core.Path.{_≡_}
+use mathlib.Core.Bool.{cond}
 use mathlib.Core.List.{List}
 use Prim.Native.Nat.{ℕ, zero, suc, _+_, _*_, _/_, _^_, _<_, _≤_}
 use lib.Dec.{T}
 use lib.ListN.{length, getD}
-use lib.IntN.{natAbs}
-use lib.Ieee.{Float, nan}
+use lib.IntN.{pos, natAbs}
+use lib.Ieee.{Float, nan, eq, neg}
 use Rattle.laws.specs.Test.{among}
 use Rattle.chain.specs.Plan.{bitCounts}
 use Rattle.chain.specs.Parser.{axisBits}
 use Rattle.mapper.specs.declared.point.Point.{Point}
-use Rattle.mapper.specs.Levels.{whole, levelOf, Levels, turned, pointOf}
+use Rattle.mapper.specs.Levels.{whole, levelOf, Levels}
 
 -- a table of the levels of s bits, by label
 pub record LevelTable (s : ℕ) (table : List Float) : Type 0 where
@@ -36,9 +37,13 @@ pub record Small (l : Levels) : Type 0 where
   pub first : natAbs (l .first) < 8
   pub second : natAbs (l .second) < 8
 
--- the turn of a point of whole numbers is the point of the turned whole numbers
-abbrev pub TurnsWhole : (p r : Point) → Type 0
-TurnsWhole p r = (l : Levels) → Small l → p ≡ pointOf l → r ≡ pointOf (turned l)
+-- a level's negative, "zero has a clear sign bit": of zero that zero, of every other float the float with its sign flipped, which rounds nothing
+unfoldable pub negatedLevel : Float → Float
+negatedLevel x = cond (eq x (whole (pos 0))) (whole (pos 0)) (neg x)
+
+-- step 8: "(a, b), becomes (-b, a)"
+abbrev pub turnedPoint : Point → Point
+turnedPoint p = record { first = negatedLevel (p .second); second = p .first }
 
 -- a point's floats in the order of the slice
 abbrev pub axisOf : Point → ℕ → Float

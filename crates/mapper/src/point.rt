@@ -8,7 +8,7 @@ ghost use Rattle.laws.specs.Test.{among};
 ghost use Rattle.laws.specs.Filled.{Filled};
 ghost use Rattle.chain.specs.Plan.{axisCounts};
 ghost use Rattle.mapper.specs.Levels.{carrierLevels, pointOf};
-ghost use Rattle.mapper.specs.Mapped.{LevelTable, PointAsked, TurnsWhole, axisOf};
+ghost use Rattle.mapper.specs.Mapped.{LevelTable, PointAsked, negatedLevel, turnedPoint, axisOf};
 
 // Two levels: exact whole numbers, zero with a clear sign bit.
 pub struct Point {
@@ -55,12 +55,19 @@ pub fn data_point(halves: &[u8], table: &[f32], bits: usize, from: usize, c: usi
     }
 }
 
-// (a, b) becomes (-b, a). Zero less zero has a clear sign bit, which the negative of zero has not.
+// The negative of a level. Zero keeps its clear sign bit; any other float has its sign bit flipped, which rounds nothing.
+fn negated(x: f32) -> f32
+    ensures { λ r. ⌜ r ≡ negatedLevel x ⌝ }
+{
+    if x == 0.0 { 0.0 } else { -x }
+}
+
+// (a, b) becomes (-b, a).
 pub fn turn(p: Point) -> Point
-    ensures { λ r. ⌜ TurnsWhole p r ⌝ }
+    ensures { λ r. ⌜ r ≡ turnedPoint p ⌝ }
 {
     Point {
-        first: 0.0 - p.second,
+        first: negated(p.second),
         second: p.first,
     }
 }

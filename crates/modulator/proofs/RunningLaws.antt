@@ -19,8 +19,9 @@ use Rattle.chain.proofs.Counts.{carriers-few, streams-most}
 use Rattle.chain.proofs.LabelLaws.{halves-most}
 use Rattle.mapper.specs.declared.point.Point.{Point}
 use Rattle.mapper.specs.Levels.{whole, Levels, levels, carrierLevels, pointOf}
-use Rattle.mapper.specs.Mapped.{LevelTable, carrierHalves, HalvesAt, PointAsked, Small, TurnsWhole, axisOf}
+use Rattle.mapper.specs.Mapped.{LevelTable, carrierHalves, HalvesAt, PointAsked, Small, turnedPoint, axisOf}
 use Rattle.mapper.proofs.CarrierLaws.{all-halves}
+use Rattle.mapper.proofs.PointLaws.{turned-whole}
 use Rattle.subcarriers.specs.declared.layout.Run.{Run}
 use Rattle.subcarriers.specs.declared.layout.Use.{Use}
 use Rattle.subcarriers.specs.declared.layout.Use.the-variants.{Pilot, Data}
@@ -32,21 +33,29 @@ use Rattle.pilots.specs.Pilots.{signOf, patternOf, polarityBit, pilotSign, Pilo
 use Rattle.pilots.proofs.PilotLaws.{pilot-is, pilot-one}
 use Rattle.modulator.proofs.SymbolLaws.{stream-float}
 use Rattle.modulator.specs.Symbol.{usedLevels, turnedIf, axisLevel, streamLevel, streamFloats, symbolFloat}
-use Rattle.modulator.specs.Asked.{halvesFrom, halvesIn, runLevel, RunAsked, PilotWhole, StreamAsked, SegmentFilled, StreamFilled, SymbolAsked}
+use Rattle.modulator.specs.Asked.{halvesFrom, halvesIn, runLevel, RunAsked, pilotPoint, StreamAsked, SegmentFilled, StreamFilled, SymbolAsked}
 
 -- a point that is turned, and one that is not
-pub turned-point : (t : Bool) (l : Levels) (p r : Point) → t ≡ true → Small l → p ≡ pointOf l → TurnsWhole p r → r ≡ pointOf (turnedIf t l)
-turned-point t l p r e small made turns = rw e (turns l small made)
+pub turned-point : (t : Bool) (l : Levels) (p r : Point) → t ≡ true → Small l → p ≡ pointOf l → r ≡ turnedPoint p → r ≡ pointOf (turnedIf t l)
+turned-point t l p r e small made turned = rw e (turned ∙ ap turnedPoint made ∙ turned-whole l small)
 
 pub plain-point : (t : Bool) (l : Levels) (p : Point) → t ≡ false → p ≡ pointOf l → p ≡ pointOf (turnedIf t l)
 plain-point t l p e made = rw e made
 
--- a pilot before its turn: its sign and 0
-pub pilot-small : (s : ℤ) → natAbs s < 8 → Small (levels s (pos 0))
-pilot-small s h = record { first = h; second = omega arith }
+-- a pilot's point, by the turn
+pub pilot-turned : (sign : Float) (t : Bool) (r : Point) → t ≡ true → r ≡ turnedPoint (record { first = sign; second = whole (pos 0) }) → r ≡ pilotPoint sign t
+pilot-turned sign t r e turned = rw e turned
 
-pub signed-point : (sign : Float) (s : ℤ) → sign ≡ whole s → record { first = sign; second = whole (pos 0) } ≡ pointOf (levels s (pos 0))
-signed-point sign s e = λ i. record { first = e i; second = whole (pos 0) }
+pub pilot-plain : (sign : Float) (t : Bool) → t ≡ false → record { first = sign; second = whole (pos 0) } ≡ pilotPoint sign t
+pilot-plain sign t e = rw e
+
+-- where its sign is the float of a small whole number
+pub pilot-point-whole : (sign : Float) (t : Bool) (s : ℤ) → natAbs s < 8 → sign ≡ whole s → pilotPoint sign t ≡ pointOf (turnedIf t (levels s (pos 0)))
+pilot-point-whole sign t s small e = ap (λ (x : Float). pilotPoint x t) e ∙ by-turn t
+  where
+    by-turn : (t : Bool) → pilotPoint (whole s) t ≡ pointOf (turnedIf t (levels s (pos 0)))
+    by-turn true = turned-whole (levels s (pos 0)) (record { first = small; second = omega arith })
+    by-turn false = refl
 
 -- a point's floats are its levels
 axis-whole : (p : Point) (l : Levels) → p ≡ pointOf l → (g : ℕ) → axisOf p g ≡ whole (axisLevel l g)
@@ -180,7 +189,7 @@ module _ (p : Plan) (halves : List ℕ) (polarity n i base from r : ℕ) (run : 
   pub pilot-filled : (d₀ d d′ : List Float) (sign : Float) (point : Point) → run .piloted ≡ true → PilotAsked (p .width) (p .streams) i (run .pilot)
       → Filled nan (base + 2 * run .place) (λ g. whole (runLevel halves (p .bits) from (run .carrier) (run .turned) g)) (2 * run .count) d₀ d
       → sign ≡ whole (patternOf (p .width) (p .streams) i ((n + run .pilot) % pilotsOf (p .width)) *ℤ signOf polarity)
-      → PilotWhole sign (run .turned) point → Filled nan (base + 2 * run .place + 2 * run .count) (axisOf point) 2 d d′
+      → point ≡ pilotPoint sign (run .turned) → Filled nan (base + 2 * run .place + 2 * run .count) (axisOf point) 2 d d′
       → SegmentFilled p halves polarity n i base from r d₀ d′
   pilot-filled d₀ d d′ sign point piloted asked filled signed pilot put =
       subst (RunFilled p halves polarity n i base from d₀ d′) told
@@ -189,7 +198,7 @@ module _ (p : Plan) (halves : List ℕ) (polarity n i base from r : ℕ) (run : 
       let s = pilotSign (p .width) (p .streams) format n i (run .pilot) in
       fill-end nan (base + 2 * run .place) (λ g. whole (level format g)) (span (run .place) (run .count) (run .piloted) piloted)
       (point-more (base + 2 * run .place) (run .count) (level format) point (turnedIf (run .turned) (levels s (pos 0))) d₀ d d′
-      (pilot s (w .0) (w .1))
+      (pilot ∙ pilot-point-whole sign (run .turned) s (w .0) (w .1))
       (λ g h.
       level-at p (λ j. halvesFrom halves from) format n i (2 * run .place + (2 * run .count + g)) (run .place + run .count) g (Pilot (run .pilot)) (run .turned)
       (omega arith) (omega arith) (right .pilot-use piloted) (right .pilot-side piloted))

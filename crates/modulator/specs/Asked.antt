@@ -1,11 +1,11 @@
 -- What the modulator's functions ask and fill.
 use mathlib.Core.Path.{_≡_}
-use mathlib.Core.Bool.{Bool}
+use mathlib.Core.Bool.{Bool, cond}
 use mathlib.Core.List.{List}
 use Prim.Native.Nat.{ℕ, _+_, _-_, _*_, _/_, _%_, _^_, _<_, _≤_}
 use lib.Dec.{T}
 use lib.ListN.{length, getD}
-use lib.IntN.{ℤ, pos, natAbs}
+use lib.IntN.{ℤ, pos}
 use lib.Ieee.{Float, nan}
 use Rattle.laws.specs.Test.{among}
 use Rattle.laws.specs.Filled.{Filled}
@@ -14,8 +14,8 @@ use Rattle.chain.specs.Parser.{axisBits}
 use Rattle.chain.specs.Labels.{halvesOf}
 use Rattle.chain.specs.declared.plan.Plan.{Plan}
 use Rattle.mapper.specs.declared.point.Point.{Point}
-use Rattle.mapper.specs.Levels.{whole, levels, carrierLevels, pointOf}
-use Rattle.mapper.specs.Mapped.{LevelTable, HalvesAt}
+use Rattle.mapper.specs.Levels.{whole, carrierLevels}
+use Rattle.mapper.specs.Mapped.{LevelTable, HalvesAt, turnedPoint}
 use Rattle.subcarriers.specs.Runs.{runOf, runEnd}
 use Rattle.pilots.specs.Pilots.{polarityBit}
 use Rattle.modulator.specs.Symbol.{turnedIf, axisLevel, streamLevel, streamFloats}
@@ -41,9 +41,9 @@ abbrev pub runLevel : (halves : List ℕ) (bits from carrier : ℕ) (turned : Bo
 runLevel halves bits from carrier turned g =
     axisLevel (turnedIf turned (carrierLevels bits (halvesFrom halves from) (carrier + g / 2))) (g % 2)
 
--- a pilot's point, whatever whole number its sign is
-abbrev pub PilotWhole : (sign : Float) (turned : Bool) (r : Point) → Type 0
-PilotWhole sign turned r = (s : ℤ) → natAbs s < 8 → sign ≡ whole s → r ≡ pointOf (turnedIf turned (levels s (pos 0)))
+-- step 8, "data and pilots": a pilot's point, its sign on the first level before the turn
+abbrev pub pilotPoint : (sign : Float) (turned : Bool) → Point
+pilotPoint sign turned = let p : Point = record { first = sign; second = whole (pos 0) } in cond turned (turnedPoint p) p
 
 -- stream i's points from place `base` on, its half labels from `from` on
 pub record StreamAsked (out : List Float) (halves : List ℕ) (table : List Float) (p : Plan) (n i base from : ℕ) : Type 0 where

@@ -20,7 +20,7 @@ ghost use Rattle.mapper.specs.Levels.{whole, carrierLevels, pointOf};
 ghost use Rattle.mapper.specs.Mapped.{PointAsked};
 ghost use Rattle.subcarriers.specs.Runs.{halfRuns};
 ghost use Rattle.modulator.specs.Symbol.{turnedIf, streamFloats, symbolFloat};
-ghost use Rattle.modulator.specs.Asked.{halvesFrom, halvesIn, runLevel, RunAsked, PilotWhole, StreamAsked, SegmentFilled, StreamFilled, SymbolAsked};
+ghost use Rattle.modulator.specs.Asked.{halvesFrom, halvesIn, runLevel, RunAsked, pilotPoint, StreamAsked, SegmentFilled, StreamFilled, SymbolAsked};
 
 // A data carrier's point as it is sent.
 fn sent_point(
@@ -66,7 +66,7 @@ fn run_points(
 
 // A pilot's point as it is sent: its sign on the first level before the turn.
 pub fn pilot_point(sign: f32, turned: bool) -> Point
-    ensures { λ r. ⌜ PilotWhole sign turned r ⌝ }
+    ensures { λ r. ⌜ r ≡ pilotPoint sign turned ⌝ }
 {
     let p = Point {
         first: sign,
