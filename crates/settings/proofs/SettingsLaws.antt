@@ -1,14 +1,14 @@
 -- Accepted settings are in range, and the numbers that follow from them. Assumes nothing.
 use mathlib.Core.Path.{_≡_, refl, sym, subst}
 use mathlib.Core.Bool.{Bool, true, false, cond, not, _||_}
-use Prim.Native.Nat.{ℕ, _≤_}
+use Prim.Native.Nat.{ℕ, _+_, _≤_}
 use native.Mathlib.Omega.{arith}
-use borrow.Author.Tests.{ltb-false, eqb-false, eqb-true}
+use borrow.Author.Tests.{lt-ltb, le-ltb, ltb-false, ne-eqb, eqb-false, eqb-true}
 use lib.Dec.{T, eqb, ltb}
 use Rattle.laws.specs.Test.{among}
 use Rattle.laws.proofs.Refusing.{true-not-false}
 use Rattle.laws.proofs.Reflect.{or-false}
-use Rattle.laws.proofs.Search.{above}
+use Rattle.laws.proofs.Search.{above, parts}
 use Rattle.chain.specs.Plan.{widths, encoderCounts, streamsOf, planOf, Planned, Fits}
 use Rattle.chain.proofs.Plans.{fits}
 use Rattle.settings.specs.Settings.{numberOf, badWidth, badMcs, badFormat, badLength, badSeed, settingsOf, checkOf, encodersOf, planFor, Right}
@@ -17,6 +17,23 @@ use Rattle.settings.specs.declared.settings.Refusal.{Refusal}
 use Rattle.settings.specs.declared.settings.Refusal.the-variants.{Width, Mcs, Format, Length, Seed, Source, Place, Room, Point, Code, Frame, Closed, SigCrc, SigForm}
 use Rattle.settings.specs.declared.settings.Settings.{Settings}
 use Rattle.settings.specs.declared.settings.Checked.the-variants.{Accepted, Refused}
+
+-- what holds of the two widths, and of every other, holds of all
+pub by-width : {P : Type 0} (w : ℕ) → (w ≡ 20 → P) → (w ≡ 40 → P) → (eqb w 20 ≡ false → eqb w 40 ≡ false → P) → P
+by-width {P} w narrow wide other = go (eqb w 20) (eqb w 40) refl refl
+  where
+    go : (a b : Bool) → eqb w 20 ≡ a → eqb w 40 ≡ b → P
+    go true b p q = narrow (eqb-true w 20 p)
+    go false true p q = wide (eqb-true w 40 q)
+    go false false p q = other p q
+
+-- what holds of 0, above `most` and between them, holds of every number
+pub by-range : {P : Type 0} (n most : ℕ)
+    → (n ≡ 0 → P) → (eqb n 0 ≡ false → ltb most n ≡ true → P) → (eqb n 0 ≡ false → ltb most n ≡ false → P) → P
+by-range n most none above between =
+    parts 1 (most + 1) n (λ l. none (omega arith))
+    (λ l h. between (ne-eqb n 0 (λ e. omega arith)) (le-ltb most n (omega arith)))
+    (λ h. above (ne-eqb n 0 (λ e. omega arith)) (lt-ltb most n (omega arith)))
 
 -- the answer where every test passes
 pub accepted-is : (a : RawSettings) → badWidth a ≡ false → badMcs a ≡ false → badFormat a ≡ false → badLength a ≡ false → badSeed a ≡ false

@@ -2,7 +2,9 @@
 use chain::plan;
 use chain::plan::Plan;
 ghost use mathlib.Core.Path.{_≡_};
-ghost use Rattle.settings.specs.Settings.{numberOf, checkOf, IsRefused, encodersOf, planFor, Right};
+ghost use lib.Dec.{ltb};
+ghost use Rattle.chain.specs.Plan.{streamsOf};
+ghost use Rattle.settings.specs.Settings.{numberOf, badWidth, badMcs, badFormat, badLength, badSeed, checkOf, IsRefused, encodersOf, planFor, Right};
 
 // The refusals of document 01's table, in its order.
 pub enum Refusal {
@@ -76,28 +78,54 @@ pub fn number(r: Refusal) -> u64
     }
 }
 
+// The tests of refusals 1 to 5, each over all settings, in the table's order.
+fn bad_width(raw: RawSettings) -> bool
+    ensures { λ r. ⌜ r ≡ badWidth raw ⌝ }
+{
+    !((raw.width == 20) | (raw.width == 40))
+}
+
+fn bad_mcs(raw: RawSettings) -> bool
+    ensures { λ r. ⌜ r ≡ badMcs raw ⌝ }
+{
+    raw.mcs > 31
+}
+
+fn bad_format(raw: RawSettings) -> bool
+    ensures { λ r. ⌜ r ≡ badFormat raw ⌝ }
+{
+    raw.format > 1
+}
+
+fn bad_length(raw: RawSettings) -> bool
+    ensures { λ r. ⌜ r ≡ badLength raw ⌝ }
+{
+    (raw.length == 0) | (raw.length > 65535)
+}
+
+fn bad_seed(raw: RawSettings) -> bool
+    ensures { λ r. ⌜ r ≡ badSeed raw ⌝ }
+{
+    (raw.seed == 0) | (raw.seed > 127)
+}
+
 // The settings, or the first refusal of 1 to 5 that applies.
 pub fn check(raw: RawSettings) -> Checked
     ensures { λ r. ⌜ r ≡ checkOf raw ⌝ }
 {
-    let bad_width = !((raw.width == 20) | (raw.width == 40));
-    if bad_width {
+    if bad_width(raw) {
         return Checked::Refused(Refusal::Width);
     }
-    let bad_mcs = raw.mcs > 31;
-    if bad_mcs {
+    if bad_mcs(raw) {
         return Checked::Refused(Refusal::Mcs);
     }
-    let bad_format = raw.format > 1;
-    if bad_format {
+    if bad_format(raw) {
         return Checked::Refused(Refusal::Format);
     }
-    let bad_length = (raw.length == 0) | (raw.length > 65535);
-    if bad_length {
+    if bad_length(raw) {
         return Checked::Refused(Refusal::Length);
     }
-    let bad_seed = (raw.seed == 0) | (raw.seed > 127);
-    if bad_seed {
+    if bad_seed(raw) {
         return Checked::Refused(Refusal::Seed);
     }
     Checked::Accepted(Settings {
@@ -125,12 +153,18 @@ pub fn refusal_of(checked: Checked) -> Refusal
     }
 }
 
+// Whether an MCS has one stream or two.
+fn few_streams(mcs: u64) -> bool
+    ensures { λ r. ⌜ r ≡ ltb (streamsOf mcs) 3 ⌝ }
+{
+    mcs / 8 + 1 < 3
+}
+
 // Encoders of the consortium's edition: 1 for one and two streams, else 2.
 pub fn encoders(mcs: u64) -> u64
     ensures { λ r. ⌜ r ≡ encodersOf mcs ⌝ }
 {
-    let few = mcs / 8 + 1 < 3;
-    if few { 1 } else { 2 }
+    if few_streams(mcs) { 1 } else { 2 }
 }
 
 // The plan of accepted settings.
