@@ -1,13 +1,12 @@
 -- The call's parts together: coded bits placed by the table, then decoded by every encoder, are the definition's inputs, test and histories.
 -- Assumes of the plan that it fits.
-use mathlib.Core.Path.{_≡_, _∙_, sym, ap₂}
-use mathlib.Core.Bool.{Bool, cond}
+use mathlib.Core.Path.{_≡_, _∙_, refl, sym, ap₂}
+use mathlib.Core.Bool.{Bool}
 use mathlib.Core.List.{List, [], _∷_}
 use mathlib.Core.Logic.{⊎-elim}
 use Prim.Native.Nat.{ℕ, _+_, _-_, _*_, _<_, _≤_}
 use native.Mathlib.Nat.{mul-comm, mul-le-mul}
 use native.Mathlib.Omega.{arith}
-use lib.Dec.{ltb}
 use lib.ListN.{length, getD}
 use borrow.Author.Tests.{lt-ltb, le-ltb}
 use Rattle.laws.specs.Filled.{Filled}
@@ -27,6 +26,13 @@ use Rattle.deinterleaver.specs.Asked.{Placed}
 use Rattle.decoder.specs.Decoded.{historyMoved, SymbolInputsAsked}
 use Rattle.decoder.specs.Asked.{EncodersAsked, EncodersDone}
 use Rattle.decoder.proofs.ExtLaws.{forced-history-ext, inputs-ext, checks-ext}
+
+-- a list of two by its elements
+listed : (l : List ℕ) → length l ≡ 2 → l ≡ getD l 0 0 ∷ (getD l 1 0 ∷ [])
+listed [] e = absurd (omega (arith, e))
+listed (x ∷ []) e = absurd (omega (arith, e))
+listed (x ∷ (y ∷ [])) e = refl
+listed (x ∷ (y ∷ (z ∷ l))) e = absurd (omega (arith, e))
 
 -- what is dealt to an encoder
 deal : (hs : ℕ → ℕ) (c : ℕ → ℕ → ℕ) (e q j t : ℕ) → j < e → forcedInput (hs j) (c j) q t ≡ inputsOf hs c e q (e * t + j)
@@ -84,16 +90,15 @@ module _ (p : Plan) (f : Fits p) where
           ∙ forced-history (p .kept) two (hs j) (codedIn p (labelBitIn p bits) j) ((p .kept - 1) * groupsOf p)
           ∙ history-ext (hs j) _ _ ((p .kept - 1) * groupsOf p) (λ t l. deal hs (codedIn p (labelBitIn p bits)) (p .encoders) (p .kept) j t h)
 
-      first-moved : forcedHistory (hs 0) (codedOf coded 0) (p .kept) ((p .kept - 1) * groupsOf p) ≡ historyMoved p hs X 0
+      -- an encoder's history is moved, another stays
+      history-is : {histories : List ℕ} {sound : Bool} {inputs₀ inputs : List ℕ}
+          → EncodersDone hs (codedOf coded) (p .encoders) (p .kept) (groupsOf p) histories sound inputs₀ inputs
+          → (j : ℕ) → getD histories j 0 ≡ historyMoved p hs X j
       unfolding historyMoved
-      first-moved = let l : 0 < p .encoders = some in simp (lt-ltb 0 (p .encoders)) (moved-is 0 l)
-
-      second-moved : cond (ltb 1 (p .encoders)) (forcedHistory (hs 1) (codedOf coded 1) (p .kept) ((p .kept - 1) * groupsOf p)) (hs 1) ≡ historyMoved p hs X 1
-      unfolding historyMoved
-      second-moved = ⊎-elim
-          (λ (l : 1 < p .encoders). simp (lt-ltb 1 (p .encoders)) (moved-is 1 l))
-          (λ (l : p .encoders ≤ 1). simp (le-ltb 1 (p .encoders)))
-          (lt-or-le 1 (p .encoders))
+      history-is done j = ⊎-elim
+          (λ (l : j < p .encoders). simp (lt-ltb j (p .encoders)) (done .moved j l ∙ moved-is j l))
+          (λ (l : p .encoders ≤ j). simp (le-ltb j (p .encoders)) (done .others j l))
+          (lt-or-le j (p .encoders))
 
       module _ (groups : ℕ) (e : groups ≡ groupsOf p) {histories : List ℕ} {sound : Bool} {inputs₀ inputs : List ℕ}
           (done : EncodersDone hs (codedOf coded) (p .encoders) (p .kept) groups histories sound inputs₀ inputs) where
@@ -111,4 +116,4 @@ module _ (p : Plan) (f : Fits p) where
             done′ .checked ∙ checks-ext hs (codedOf coded) (codedIn p (labelBitIn p bits)) (p .encoders) (p .kept) (groupsOf p) some two coded-is
 
         pub symbol-moved : histories ≡ historyMoved p hs (decodedInput p hs (labelBitIn p bits)) 0 ∷ (historyMoved p hs (decodedInput p hs (labelBitIn p bits)) 1 ∷ [])
-        symbol-moved = done′ .moved ∙ ap₂ (λ (x y : ℕ). x ∷ (y ∷ [])) first-moved second-moved
+        symbol-moved = listed histories (done′ .two) ∙ ap₂ (λ (x y : ℕ). x ∷ (y ∷ [])) (history-is done′ 0) (history-is done′ 1)

@@ -1,9 +1,9 @@
 -- What the decoder's inner call asks and leaves: all encoders' forced inputs.
 use mathlib.Core.Path.{_≡_}
-use mathlib.Core.Bool.{Bool, cond}
-use mathlib.Core.List.{List, [], _∷_}
+use mathlib.Core.Bool.{Bool}
+use mathlib.Core.List.{List}
 use Prim.Native.Nat.{ℕ, _-_, _*_, _<_, _≤_}
-use lib.Dec.{T, ltb}
+use lib.Dec.{T}
 use lib.ListN.{length, getD}
 use Rattle.laws.specs.Test.{among}
 use Rattle.laws.specs.Filled.{Filled}
@@ -23,8 +23,8 @@ pub record EncodersAsked (inputs coded histories : List ℕ) (encoders kept grou
 
 -- all encoders' inverse; with one encoder the second history is as it was
 pub record EncodersDone (hs : ℕ → ℕ) (c : ℕ → ℕ → ℕ) (encoders kept groups : ℕ) (histories : List ℕ) (sound : Bool) (inputs₀ inputs : List ℕ) : Type 0 where
-  pub moved :
-      histories
-      ≡ forcedHistory (hs 0) (c 0) kept ((kept - 1) * groups) ∷ (cond (ltb 1 encoders) (forcedHistory (hs 1) (c 1) kept ((kept - 1) * groups)) (hs 1) ∷ [])
+  pub two : length histories ≡ 2
+  pub moved : (j : ℕ) → j < encoders → getD histories j 0 ≡ forcedHistory (hs j) (c j) kept ((kept - 1) * groups)
+  pub others : (j : ℕ) → encoders ≤ j → getD histories j 0 ≡ hs j
   pub filled : Filled 0 0 (λ d. inputsOf hs c encoders kept d) (encoders * ((kept - 1) * groups)) inputs₀ inputs
   pub checked : sound ≡ checks hs c encoders kept groups

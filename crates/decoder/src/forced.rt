@@ -18,7 +18,7 @@ pub struct Decoded {
     pub sound: bool,
 }
 
-// All encoders of a symbol: coded bit y of encoder j stands at 1296·j + y.
+// All encoders of a symbol, by their number j: coded bit y of encoder j stands at 1296·j + y.
 fn decode_symbol(
     inputs: &mut [u8],
     coded: &[u8],
@@ -30,19 +30,27 @@ fn decode_symbol(
     requires { ⌜ EncodersAsked (now inputs) (now coded) histories encoders kept groups ⌝ }
     ensures { λ r. ⌜ EncodersDone (historiesIn histories) (codedOf (now (coded .entry))) encoders kept groups (r .histories) (r .sound) (now (inputs .entry)) (now (inputs .exit)) ⌝ }
 {
-    let first = histories[0];
-    let second = histories[1];
-    let one = decode_encoder(inputs, coded, first, kept, groups, 0, encoders, 0);
-    if encoders == 2 {
-        let two = decode_encoder(inputs, coded, second, kept, groups, 1296, encoders, 1);
-        return Decoded {
-            histories: [one.history, two.history],
-            sound: one.wrong + two.wrong == 0,
-        };
+    let mut after = histories;
+    let mut wrong: usize = 0;
+    let mut j: usize = 0;
+    while j < encoders {
+        let forced = decode_encoder(
+            inputs,
+            coded,
+            histories[j],
+            kept,
+            groups,
+            1296 * j,
+            encoders,
+            j,
+        );
+        after[j] = forced.history;
+        wrong += forced.wrong;
+        j += 1;
     }
     Decoded {
-        histories: [one.history, second],
-        sound: one.wrong == 0,
+        histories: after,
+        sound: wrong == 0,
     }
 }
 

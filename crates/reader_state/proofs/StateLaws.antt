@@ -1,12 +1,12 @@
 -- The reader's state: its numbers are small, and it is closed exactly where it is not in range. Assumes nothing.
-use mathlib.Core.Path.{_≡_, _∙_, sym, ap}
+use mathlib.Core.Path.{_≡_, _∙_, refl, sym, ap}
 use mathlib.Core.Bool.{Bool, true, false, _||_}
-use mathlib.Core.List.{[], _∷_}
-use Prim.Native.Nat.{ℕ, _*_, _%_, _^_, _<_, _≤_}
+use mathlib.Core.List.{List, [], _∷_}
+use Prim.Native.Nat.{ℕ, zero, suc, _*_, _%_, _^_, _<_, _≤_}
 use native.Mathlib.Nat.{mul-le-mul}
 use native.Mathlib.Omega.{arith}
 use native.Mathlib.Decide.{ℕ-discrete}
-use borrow.Author.Tests.{le-ltb, ltb-false, leb-false, lt-leb, eq-eqb, ne-eqb, eqb-false}
+use borrow.Author.Tests.{le-ltb, ltb-false, leb-false, lt-leb, le-leb, eq-eqb, ne-eqb, eqb-false}
 use lib.Dec.{leb, ltb, eqb}
 use lib.ListN.{getD}
 use Rattle.laws.specs.Claim.{Claim, _is_, upTo, Holds, sound}
@@ -21,7 +21,7 @@ use Rattle.settings.proofs.SettingsLaws.{right, plan-fits}
 use Rattle.symbols.proofs.CountLaws.{symbols-few}
 use Rattle.assembler.specs.Assembled.{payloadBefore}
 use Rattle.reader_state.specs.declared.state.Reader.{Reader}
-use Rattle.reader_state.specs.State.{InRange, openRaw, historyOf, firstBit, badScrambler, badPart, closedOf}
+use Rattle.reader_state.specs.State.{InRange, openRaw, historyOf, firstBit, badHistories, badScrambler, badPart, closedOf}
 
 abbrev powerClaim : Claim
 powerClaim = upTo 8 λ r. getD (1 ∷ 2 ∷ 4 ∷ 8 ∷ 16 ∷ 32 ∷ 64 ∷ 128 ∷ []) r 0 is 2 ^ r
@@ -44,11 +44,24 @@ module _ (s : Settings) (st : Reader) where
   unfolding closedOf
   closed-past e = simp e
 
-  pub closed-by : (a b : Bool) → (st .ended || leb (symbolsOf s) (st .symbol)) ≡ false
-      → a ≡ badScrambler (st .symbol) (st .scrambler) → b ≡ badPart s (st .symbol) (st .part)
-      → ((leb 64 (historyOf st 0) || leb 64 (historyOf st 1)) || (a || b)) ≡ closedOf s st
+  pub closed-by : (h a b : Bool) → (st .ended || leb (symbolsOf s) (st .symbol)) ≡ false → h ≡ badHistories (st .histories)
+      → a ≡ badScrambler (st .symbol) (st .scrambler) → b ≡ badPart s (st .symbol) (st .part) → (h || (a || b)) ≡ closedOf s st
   unfolding closedOf
-  closed-by a b e f g = simp (e, f, g)
+  closed-by h a b e d f g = simp (e, d, f, g)
+
+-- the histories' test, encoder by encoder
+module _ (histories : List ℕ) where
+  pub far-at : (j : ℕ) → j < 2 → 64 ≤ getD histories j 0 → true ≡ badHistories histories
+  far-at zero l e = simp (le-leb 64 (getD histories 0 0) e)
+  far-at (suc zero) l e = go (leb 64 (getD histories 0 0)) (le-leb 64 (getD histories 1 0) e)
+    where
+      go : (a : Bool) {b : Bool} → b ≡ true → true ≡ (a || b)
+      go true e = refl
+      go false e = sym e
+  far-at (suc (suc j)) l e = absurd (omega arith)
+
+  pub near-all : ((j : ℕ) → j < 2 → getD histories j 0 < 64) → false ≡ badHistories histories
+  near-all near = simp (lt-leb 64 (getD histories 0 0) (near 0 (omega arith)), lt-leb 64 (getD histories 1 0) (near 1 (omega arith)))
 
 -- the tests of the scrambler, and the range
 scrambler-range : (symbol scrambler : ℕ) → badScrambler symbol scrambler ≡ false → (symbol ≡ 0 → ⊥) → (0 < scrambler) × (scrambler < 128)
@@ -74,7 +87,7 @@ module _ (s : Settings) (st : Reader) where
   in-range e =
       let scrambler : Bool = badScrambler (st .symbol) (st .scrambler) in
       let part : Bool = badPart s (st .symbol) (st .part) in
-      let far : Bool = leb 64 (historyOf st 0) || leb 64 (historyOf st 1) in
+      let far : Bool = badHistories (st .histories) in
       let a = or-false (st .ended || leb (symbolsOf s) (st .symbol)) (far || (scrambler || part)) e in
       let b = or-false (st .ended) (leb (symbolsOf s) (st .symbol)) (a .0) in
       let c = or-false far (scrambler || part) (a .1) in

@@ -1,7 +1,7 @@
 -- The strict reader's state, its ranges and its start (document 01, 'Numbered refusals': "A state in range has ..").
 use mathlib.Core.Path.{_≡_}
 use mathlib.Core.Bool.{Bool, true, false, not, _||_, _&&_}
-use mathlib.Core.List.{[], _∷_}
+use mathlib.Core.List.{List, [], _∷_}
 use Prim.Native.Nat.{ℕ, _*_, _%_, _^_, _<_}
 use lib.Dec.{eqb, ltb, leb}
 use lib.ListN.{getD}
@@ -61,6 +61,10 @@ historyOf st j = getD (st .histories) j 0
 abbrev pub firstBit : Settings → (symbol : ℕ) → ℕ
 firstBit s symbol = symbol * planFor s .dbps
 
+-- not "histories below 64"
+abbrev pub badHistories : (histories : List ℕ) → Bool
+badHistories histories = leb 64 (getD histories 0 0) || leb 64 (getD histories 1 0)
+
 -- not "from symbol 1 on a scrambler of 1 to 127"
 abbrev pub badScrambler : (symbol scrambler : ℕ) → Bool
 badScrambler symbol scrambler = not (eqb symbol 0) && (eqb scrambler 0 || ltb 127 scrambler)
@@ -73,7 +77,7 @@ badPart s symbol part = leb (2 ^ (payloadBefore (s .length) (firstBit s symbol) 
 unfoldable pub closedOf : Settings → Reader → Bool
 closedOf s st =
     (st .ended || leb (symbolsOf s) (st .symbol))
-    || ((leb 64 (historyOf st 0) || leb 64 (historyOf st 1)) || (badScrambler (st .symbol) (st .scrambler) || badPart s (st .symbol) (st .part)))
+    || (badHistories (st .histories) || (badScrambler (st .symbol) (st .scrambler) || badPart s (st .symbol) (st .part)))
 
 -- "the state given with only its end marked"
 abbrev pub endedOf : Reader → Reader

@@ -11,7 +11,7 @@ use symbols::count::symbols_of;
 ghost use mathlib.Core.Path.{_≡_};
 ghost use Prim.Native.Nat.{_%_, _^_, _<_};
 ghost use Rattle.settings.specs.Settings.{Right};
-ghost use Rattle.reader_state.specs.State.{openRaw, startOf, badScrambler, badPart, closedOf, endedOf};
+ghost use Rattle.reader_state.specs.State.{openRaw, startOf, badHistories, badScrambler, badPart, closedOf, endedOf};
 
 // Settings without a seed, as wide as any caller has them.
 pub struct OpenSettings {
@@ -106,6 +106,20 @@ fn power(r: usize) -> u8
     POWERS[r]
 }
 
+// Histories are six bits, encoder by encoder.
+fn bad_histories(histories: [u8; 2]) -> bool
+    ensures { λ r. ⌜ r ≡ badHistories histories ⌝ }
+{
+    let mut j: usize = 0;
+    while j < 2 {
+        if histories[j] >= 64 {
+            return true;
+        }
+        j += 1;
+    }
+    false
+}
+
 // From symbol 1 on a scrambler is 1 to 127.
 fn bad_scrambler(symbol: u64, scrambler: u8) -> bool
     ensures { λ r. ⌜ r ≡ badScrambler symbol scrambler ⌝ }
@@ -132,8 +146,10 @@ pub fn is_closed(reader: Reader, s: Settings) -> bool
     if past {
         return true;
     }
-    let far = (reader.histories[0] >= 64) | (reader.histories[1] >= 64);
-    far | (bad_scrambler(reader.symbol, reader.scrambler) | bad_part(s, reader.symbol, reader.part))
+    let histories = reader.histories;
+    bad_histories(histories)
+        | (bad_scrambler(reader.symbol, reader.scrambler)
+            | bad_part(s, reader.symbol, reader.part))
 }
 
 // The state given, its end marked.

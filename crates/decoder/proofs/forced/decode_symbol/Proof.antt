@@ -1,48 +1,91 @@
--- `decode_symbol` puts the inputs of one encoder or of two together.
+-- `decode_symbol`: before each turn, the encoders passed are inverted.
+use mathlib.Core.Path.{refl}
+use Prim.Native.Nat.{_-_, _≤_}
 use native.Mathlib.Omega.{arith}
 use borrow.Author.Needs.{needs}
-use Rattle.chain.proofs.Counts.{encoders-not-two}
-use Rattle.decoder.proofs.EncoderLaws.{asked-first, asked-second, all-one, all-two}
+use denote.Ref.{now}
+use Rattle.chain.proofs.Counts.{encoders-some, encoders-most}
+use Rattle.deinterleaver.specs.Deinterleaved.{codedOf}
+use Rattle.decoder.specs.Decoded.{historiesIn}
+use Rattle.decoder.proofs.EncoderLaws.{Passed, passed-none, passed-more, passed-all, encoder-asked}
 use Rattle.decoder.proofs.forced.decode_symbol.Statement.{statement}
 use Rattle.decoder.proofs.forced.decode_symbol.Tie as tie
 
-array-read-first : tie.Need-array-read-first
-array-read-first c = search needs
+abbrev Inv-loop : tie.InvT-loop
+Inv-loop inputs₀ coded encoders kept groups histories after₀ wrong₀ j₀ inputs after wrong j =
+    Passed (historiesIn histories) (codedOf coded) encoders kept groups j after wrong inputs₀ inputs
 
-array-read-second : tie.Need-array-read-second
-array-read-second c = search needs
+abbrev μ-loop : tie.MeasureT-loop
+μ-loop inputs₀ coded encoders kept groups histories after₀ wrong₀ j₀ inputs after wrong j = encoders - j
 
-decode-encoder-requires : tie.Need-decode-encoder-requires
-decode-encoder-requires c κs = asked-first (c .before .before .before .pre) _ (omega arith)
+-- the entry, from the loop and from the turn that makes the call
+abbrev entry : tie.At-loop Inv-loop μ-loop → tie.Start Inv-loop μ-loop
+entry c = c .before .before .before
 
-decode-encoder-requires-2 : tie.Need-decode-encoder-requires-2
-decode-encoder-requires-2 c κs = asked-second (c .before .before .before .before .before .before .before .before .pre) _ (omega arith) _ (c .before .before .before .before .decode-encoder .ensures .part .forced .same) (omega arith)
+abbrev turn : tie.After-struct-known Inv-loop μ-loop → tie.In-loop Inv-loop μ-loop
+turn c = c .before .before .before .before .before
 
-add-t23 : tie.Need-add-t23
-add-t23 c = search needs
+few : (c : tie.At-loop Inv-loop μ-loop) → entry c .args .encoders ≤ 2
+few c = encoders-most (entry c .args .encoders) (entry c .pre .one-or-two)
 
-same-length : tie.Need-same-length
+loop-holds : tie.Need-loop-holds Inv-loop μ-loop
+loop-holds c = passed-none _ _ _ _ _ _ _ (search needs) (λ j. refl)
+
+array-read-decode-encoder : tie.Need-array-read-decode-encoder Inv-loop μ-loop
+array-read-decode-encoder c = omega (arith, few (c .before .before))
+
+mul-decode-encoder : tie.Need-mul-decode-encoder Inv-loop μ-loop
+mul-decode-encoder c = omega (arith, few (c .before .before))
+
+decode-encoder-requires : tie.Need-decode-encoder-requires Inv-loop μ-loop
+decode-encoder-requires c κs =
+    let l = c .before .before in
+    encoder-asked (entry l .pre) _ (omega (arith, few l)) (l .loop .j) (c .before .loop-test .taken) _ (l .loop .inv .same)
+
+array-write-after : tie.Need-array-write-after Inv-loop μ-loop
+array-write-after c = omega (arith, few (c .before .before .before .before .before))
+
+add-wrong : tie.Need-add-wrong Inv-loop μ-loop
+add-wrong c =
+    let l = turn c .before in
+    let d = c .before .before .before .decode-encoder .ensures in
+    omega (arith, few l, l .loop .inv .few, d .tally .few, d .few)
+
+add-j : tie.Need-add-j Inv-loop μ-loop
+add-j c = search needs
+
+loop-less : tie.Need-loop-less Inv-loop μ-loop
+loop-less c = search needs
+
+loop-again : tie.Need-loop-again Inv-loop μ-loop
+loop-again c =
+    let i = turn c in
+    let l = i .before in
+    passed-more _ _ _ _ _ (l .loop .j) _ _ _ _ (l .loop .inv) _ _ _ (i .loop-test .taken) (few l)
+    (c .before .before .before .decode-encoder .ensures)
+
+same-length : tie.Need-same-length Inv-loop μ-loop
 same-length c = search needs
 
-returns : tie.Need-returns
-returns c = all-two _ _ _ _ _ _ _ _ _ _ _ _ (omega arith) (c .before .before .before .before .before .before .before .before .before .decode-encoder .ensures) (c .before .before .before .before .decode-encoder2 .ensures)
-
-same-length-2 : tie.Need-same-length-2
-same-length-2 c = search needs
-
-returns-2 : tie.Need-returns-2
-returns-2 c = all-one _ _ _ _ _ _ _ _ _ (encoders-not-two _ (c .before .before .before .before .before .before .before .before .pre .one-or-two) (omega arith)) (c .before .before .before .before .decode-encoder .ensures)
+returns : tie.Need-returns Inv-loop μ-loop
+returns c =
+    let l = c .before in
+    passed-all _ _ _ _ _ (l .loop .j) _ _ _ _ (l .loop .inv) (encoders-some _ (entry l .pre .one-or-two)) (omega arith)
 
 pub decode-symbol-spec : {M : Type 1} → statement M
 decode-symbol-spec =
     tie.close
     (tie.spec
-    array-read-first
-    array-read-second
+    Inv-loop
+    μ-loop
+    loop-holds
+    array-read-decode-encoder
+    mul-decode-encoder
     decode-encoder-requires
-    decode-encoder-requires-2
-    add-t23
+    array-write-after
+    add-wrong
+    add-j
+    loop-less
+    loop-again
     same-length
-    returns
-    same-length-2
-    returns-2)
+    returns)

@@ -11,43 +11,44 @@ use borrow.Author.Needs.{needs}
 use Rattle.reader_state.proofs.state.is_closed.Statement.{statement}
 use Rattle.reader_state.proofs.state.is_closed.Tie as tie
 
--- the first test, with the count by its definition
-past : (c : tie.Then1) → let a = c .before .before in (a .args .t1 .ended || leb (symbolsOf (a .args .s)) (a .args .t1 .symbol)) ≡ true
-past c = let a = c .before .before in
-    subst (λ (k : ℕ). (a .args .t1 .ended || leb k (a .args .t1 .symbol)) ≡ true) (c .before .symbols-of .ensures) (c .if1 .taken)
+-- the entry
+abbrev entry : tie.After-struct-known2 → tie.Start
+entry c = c .before .before .before
 
-going : (c : tie.Else1) → let a = c .before .before in (a .args .t1 .ended || leb (symbolsOf (a .args .s)) (a .args .t1 .symbol)) ≡ false
-going c = let a = c .before .before in
-    subst (λ (k : ℕ). (a .args .t1 .ended || leb k (a .args .t1 .symbol)) ≡ false) (c .before .symbols-of .ensures) (c .if1 .left)
+-- the first test, with the count by its definition
+past : (c : tie.Then1) → let a = entry (c .before) in (a .args .reader .ended || leb (symbolsOf (a .args .s)) (a .args .reader .symbol)) ≡ true
+past c = let a = entry (c .before) in
+    subst (λ (k : ℕ). (a .args .reader .ended || leb k (a .args .reader .symbol)) ≡ true) (c .before .before .before .symbols-of .ensures) (c .if1 .taken)
+
+going : (c : tie.Else1) → let a = entry (c .before) in (a .args .reader .ended || leb (symbolsOf (a .args .s)) (a .args .reader .symbol)) ≡ false
+going c = let a = entry (c .before) in
+    subst (λ (k : ℕ). (a .args .reader .ended || leb k (a .args .reader .symbol)) ≡ false) (c .before .before .before .symbols-of .ensures) (c .if1 .left)
 
 symbols-of-requires : tie.Need-symbols-of-requires
 symbols-of-requires c κs = search needs
 
 returns : tie.Need-returns
-returns c =
-    let a = c .before .before in
-    closed-past (a .args .s) (a .args .t1) (past c)
+returns c = let a = entry (c .before) in closed-past (a .args .s) (a .args .reader) (past c)
 
-element-copy-out-far : tie.Need-element-copy-out-far
-element-copy-out-far c = search needs
-
-element-copy-out-far-2 : tie.Need-element-copy-out-far-2
-element-copy-out-far-2 c = search needs
+bad-histories-requires : tie.Need-bad-histories-requires
+bad-histories-requires c κs = search needs
 
 bad-scrambler-requires : tie.Need-bad-scrambler-requires
 bad-scrambler-requires c κs = search needs
 
 bad-part-requires : tie.Need-bad-part-requires
 bad-part-requires c κs =
-    let a = c .before .before .before .before .before in
-    (a .pre, symbol-few (a .args .s) (a .pre) _ (leb-false _ _ (or-false (a .args .t1 .ended) (leb (symbolsOf (a .args .s)) (a .args .t1 .symbol)) (going (c .before .before .before)) .1)))
+    let e = c .before .before .before in
+    let a = entry (e .before) in
+    (a .pre, symbol-few (a .args .s) (a .pre) _ (leb-false _ _ (or-false (a .args .reader .ended) (leb (symbolsOf (a .args .s)) (a .args .reader .symbol)) (going e) .1)))
 
 returns-2 : tie.Need-returns-2
 returns-2 c =
     let b = c .before in
-    let e = b .before .before .before in
-    let a = e .before .before in
-    closed-by (a .args .s) (a .args .t1) _ _ (going e) (b .bad-scrambler .ensures) (c .bad-part .ensures)
+    let h = b .before in
+    let e = h .before .before in
+    let a = entry (e .before) in
+    closed-by (a .args .s) (a .args .reader) _ _ _ (going e) (h .bad-histories .ensures) (b .bad-scrambler .ensures) (c .bad-part .ensures)
 
 pub is-closed-spec : {M : Type 1} → statement M
 is-closed-spec =
@@ -55,8 +56,7 @@ is-closed-spec =
     (tie.spec
     symbols-of-requires
     returns
-    element-copy-out-far
-    element-copy-out-far-2
+    bad-histories-requires
     bad-scrambler-requires
     bad-part-requires
     returns-2)
