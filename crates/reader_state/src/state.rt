@@ -148,8 +148,7 @@ pub fn is_closed(reader: Reader, s: Settings) -> bool
     }
     let histories = reader.histories;
     bad_histories(histories)
-        | (bad_scrambler(reader.symbol, reader.scrambler)
-            | bad_part(s, reader.symbol, reader.part))
+        | (bad_scrambler(reader.symbol, reader.scrambler) | bad_part(s, reader.symbol, reader.part))
 }
 
 // The state given, its end marked.

@@ -8,6 +8,10 @@ use borrow.Author.Needs.{needs}
 use Rattle.acceptance.proofs.accept.hear_inputs.Statement.{statement}
 use Rattle.acceptance.proofs.accept.hear_inputs.Tie as tie
 
+-- the entry, from the call that takes the scrambling off
+abbrev entry : tie.After-descramble → tie.Start
+entry k = k .before .before .before .before .before .before
+
 plan-of-requires : tie.Need-plan-of-requires
 plan-of-requires c κs = search needs
 
@@ -30,8 +34,9 @@ slice-aggregate-is-right c = search needs
 
 is-right-requires : tie.Need-is-right-requires
 is-right-requires c κs =
-    let a = c .before .before .before .before .before .before .before .before in
-    right-asked (a .args .s) (a .args .reader) (now (a .args .inputs)) (a .pre .held) _ (omega (arith, c .before .before .descramble .ensures .same))
+    let k = c .before .before in
+    let a = entry k in
+    right-asked (a .args .s) (a .args .reader) (now (a .args .inputs)) (a .pre .held) _ (omega (arith, k .descramble .ensures .same))
 
 slice-aggregate-put-bytes : tie.Need-slice-aggregate-put-bytes
 slice-aggregate-put-bytes c = search needs
@@ -39,7 +44,7 @@ slice-aggregate-put-bytes c = search needs
 put-bytes-requires : tie.Need-put-bytes-requires
 put-bytes-requires c κs =
     let k = c .before .before .before .before .before .before in
-    let a = c .before .before .before .before .before .before .before .before .before .before .before .before in
+    let a = entry k in
     bytes-asked (a .args .s) (a .args .reader) (now (a .args .inputs)) (a .pre .held) _ _ (a .pre .whole-payload) (omega (arith, k .descramble .ensures .same)) (plain-small (a .args .s) (k .before .before .before .plan-of .result) (k .before .before .before .plan-of .ensures) _ _ _ _ (k .descramble .ensures))
 
 accepted-as-requires : tie.Need-accepted-as-requires
@@ -53,12 +58,14 @@ same-length c = search needs
 
 returns : tie.Need-returns
 returns c =
-    let k = c .before .before .before .before .before .before .before .before .before .before .before in
+    let b = c .before .before .before .before in
+    let i = b .before .before .before in
+    let k = i .before .before .before .before in
     let p = k .before .before .before in
-    let a = c .before .before .before .before .before .before .before .before .before .before .before .before .before .before .before .before .before in
+    let a = entry k in
     heard-accepted (a .args .s) (a .pre .held .right) (a .args .reader) (bitNumbered (now (a .args .inputs))) (a .args .histories) (k .descramble .last .0) (k .before .before .scrambler-for .result) (k .before .before .scrambler-for .ensures .0)
     (plain-at (a .args .s) (p .plan-of .result) (p .plan-of .ensures) _ _ _ _ (k .descramble .ensures))
-    _ _ _ _ _ (sym (c .before .before .before .before .before .before .before .before .is-right .ensures) ∙ c .before .before .before .before .before .before .before .if1 .taken) (c .before .accepted-as .ensures) (c .moved .ensures) (c .before .before .before .before .put-bytes .ensures .1) (c .before .before .before .before .put-bytes .ensures .0)
+    _ _ _ _ _ (sym (i .before .is-right .ensures) ∙ i .if1 .taken) (c .before .accepted-as .ensures) (c .moved .ensures) (b .put-bytes .ensures .1) (b .put-bytes .ensures .0)
 
 ended-requires : tie.Need-ended-requires
 ended-requires c κs = search needs
@@ -67,7 +74,7 @@ returns-2 : tie.Need-returns-2
 returns-2 c =
     let k = c .before .before .before .before .before in
     let p = k .before .before .before in
-    let a = c .before .before .before .before .before .before .before .before .before .before .before in
+    let a = entry k in
     heard-refused (a .args .s) (a .pre .held .right) (a .args .reader) (bitNumbered (now (a .args .inputs))) (a .args .histories) (k .descramble .last .0) (k .before .before .scrambler-for .result) (k .before .before .scrambler-for .ensures .0)
     (plain-at (a .args .s) (p .plan-of .result) (p .plan-of .ensures) _ _ _ _ (k .descramble .ensures))
     _ _ (sym (c .before .before .is-right .ensures) ∙ c .before .if1 .left) (c .ended .ensures)

@@ -5,6 +5,10 @@ use Rattle.decoder.proofs.SymbolLaws.{encoders-asked, symbol-filled, sy
 use Rattle.decoder.proofs.forced.symbol_inputs.Statement.{statement}
 use Rattle.decoder.proofs.forced.symbol_inputs.Tie as tie
 
+-- the entry, from the call that places the coded bits
+abbrev entry : tie.After-symbol-coded → tie.Start
+entry k = k .before .before .before .before
+
 slice-aggregate-symbol-coded : tie.Need-slice-aggregate-symbol-coded
 slice-aggregate-symbol-coded c = search needs
 
@@ -19,8 +23,9 @@ groups-of-requires c κs = search needs
 
 decode-symbol-requires : tie.Need-decode-symbol-requires
 decode-symbol-requires c κs =
-    let a = c .before .before .before .before .before .before .before .before in
-    let placed = c .before .before .before .before .symbol-coded .ensures in
+    let k = c .before .before .before .before in
+    let a = entry k in
+    let placed = k .symbol-coded .ensures in
     encoders-asked (a .args .plan) (a .pre .fits) placed _ (c .groups-of .ensures) (a .pre) (placed .same)
 
 same-length : tie.Need-same-length
@@ -30,8 +35,9 @@ returns : tie.Need-returns
 returns c =
     let d = c .before .before in
     let g = d .before in
-    let a = g .before .before .before .before .before .before .before .before in
-    let placed = g .before .before .before .before .symbol-coded .ensures in
+    let k = g .before .before .before .before in
+    let a = entry k in
+    let placed = k .symbol-coded .ensures in
     let hs = historiesIn (a .args .histories) in (
       symbol-filled (a .args .plan) (a .pre .fits) placed hs _ (g .groups-of .ensures) (d .decode-symbol .ensures),
       (

@@ -8,6 +8,10 @@ use borrow.Author.Needs.{needs}
 use Rattle.reader.proofs.step.hear_points.Statement.{statement}
 use Rattle.reader.proofs.step.hear_points.Tie as tie
 
+-- the entry, from the call that searches
+abbrev entry : tie.After-symbol-bits → tie.Start
+entry k = k .before .before .before .before .before
+
 slice-aggregate-symbol-bits : tie.Need-slice-aggregate-symbol-bits
 slice-aggregate-symbol-bits c = search needs
 
@@ -28,7 +32,7 @@ ended-requires c κs = search needs
 cast-t15 : tie.Need-cast-t15
 cast-t15 c =
     let k = c .before .before .before .before .before in
-    let a = c .before .before .before .before .before .before .before .before .before .before in
+    let a = entry k in
     omega (
       arith,
       stream-few (a .args .s) (a .pre .right) (now (a .args .points)) _ _ _ _ (c .before .before .found .given .1)
@@ -38,14 +42,14 @@ cast-t15 c =
 subcarrier-of-requires : tie.Need-subcarrier-of-requires
 subcarrier-of-requires c κs =
     let k = c .before .before .before .before .before in
-    let a = c .before .before .before .before .before .before .before .before .before .before in
+    let a = entry k in
     (a .pre .right .width, place-few (a .args .s) (now (a .args .points)) _ _ _ _ (c .before .before .found .given .1) (search-by (a .args .s) (a .args .reader) (k .before .plan-of .result) (k .before .plan-of .ensures) (now (a .args .points)) _ (k .symbol-bits .ensures .0)))
 
 returns : tie.Need-returns
 returns c =
     let k = c .before .before .before .before .before .before in
     let p = k .before in
-    let a = c .before .before .before .before .before .before .before .before .before .before .before in
+    let a = entry k in
     (points-refused (a .args .s) (a .pre .right) (a .args .reader) (now (a .args .points)) (k .symbol-bits .result) _ _ _ _ (c .before .before .before .found .given .1) (search-by (a .args .s) (a .args .reader) (p .plan-of .result) (p .plan-of .ensures) (now (a .args .points)) _ (k .symbol-bits .ensures .0)) (search needs ∙ c .subcarrier-of .ensures) (c .before .ended .ensures), refl)
 
 enum-told : tie.Need-enum-told
@@ -57,7 +61,7 @@ slice-aggregate-hear-bits c = search needs
 hear-bits-requires : tie.Need-hear-bits-requires
 hear-bits-requires c κs =
     let k = c .before .before .before .before .before in
-    let a = c .before .before .before .before .before .before .before .before .before .before in
+    let a = entry k in
     labels-asked (a .args .s) (a .args .reader) (k .before .plan-of .result) (k .before .plan-of .ensures) _ _ (now (a .args .points)) (k .symbol-bits .result) _ (a .pre) (omega arith) tt (k .symbol-bits .ensures .1)
 
 same-length : tie.Need-same-length
@@ -65,10 +69,11 @@ same-length c = search needs
 
 returns-2 : tie.Need-returns-2
 returns-2 c =
-    let k = c .before .before .before .before .before .before .before .before in
+    let e = c .before .before .before .before .before in
+    let k = e .before .before .before in
     let p = k .before in
-    let a = c .before .before .before .before .before .before .before .before .before .before .before .before .before in
-    points-heard (a .args .s) (a .pre .right) (a .args .reader) (now (a .args .points)) (k .symbol-bits .result) _ _ _ _ _ (c .before .before .before .before .before .enum-told .given .1)
+    let a = entry k in
+    points-heard (a .args .s) (a .pre .right) (a .args .reader) (now (a .args .points)) (k .symbol-bits .result) _ _ _ _ _ (e .enum-told .given .1)
     (search-by (a .args .s) (a .args .reader) (p .plan-of .result) (p .plan-of .ensures) (now (a .args .points)) _ (k .symbol-bits .ensures .0))
     (shown-by (a .args .s) (a .args .reader) (p .plan-of .result) (p .plan-of .ensures) (now (a .args .points)) _ _ _ (k .symbol-bits .ensures .1)) (c .before .before .hear-bits .ensures)
 

@@ -19,12 +19,19 @@ use borrow.Author.Needs.{needs}
 use Rattle.reader_place.proofs.place.place.Statement.{statement}
 use Rattle.reader_place.proofs.place.place.Tie as tie
 
+-- the entry, and where the settings are told, from the call that makes the plan
+abbrev entry : tie.After-known-told → tie.Start
+entry c = c .before .before .before .before .before .before .before
+
+abbrev told : tie.After-plan-of → tie.After-known-told
+told p = p .before .before .before .before .before .before
+
 -- the settings of the state are accepted
-settings : (c : tie.After-known-told) → Accepted (c .before .checked .given .0 .0) ≡ checkOf (openRaw (c .before .before .before .before .before .before .before .args .reader .settings))
+settings : (c : tie.After-known-told) → Accepted (c .before .checked .given .0 .0) ≡ checkOf (openRaw (entry c .args .reader .settings))
 settings c = let k = c .before .before .before in sym (c .before .checked .given .1) ∙ k .check .ensures ∙ ap checkOf (k .before .raw-of .ensures)
 
 -- and the state is not closed
-going : (c : tie.Else1) → false ≡ closedOf (c .before .before .before .checked .given .0 .0) (c .before .before .before .before .before .before .before .before .before .args .reader)
+going : (c : tie.Else1) → false ≡ closedOf (c .before .before .before .checked .given .0 .0) (entry (c .before .before) .args .reader)
 going c = sym (c .if1 .left) ∙ c .before .is-closed .ensures
 
 raw-of-requires : tie.Need-raw-of-requires
@@ -46,33 +53,33 @@ returns c =
     place-as (a .args .reader) (now (a .args .points)) _ (sym (c .enum-told .given .1) ∙ k .check .ensures ∙ ap checkOf (k .before .raw-of .ensures)) _ refl
 
 is-closed-requires : tie.Need-is-closed-requires
-is-closed-requires c κs = open-right (c .before .before .before .before .before .before .before .args .reader) (c .before .checked .given .0 .0) (settings c)
+is-closed-requires c κs = open-right (entry c .args .reader) (c .before .checked .given .0 .0) (settings c)
 
 returns-2 : tie.Need-returns-2
 returns-2 c =
     let k = c .before .before in
-    let a = c .before .before .before .before .before .before .before .before .before in
+    let a = entry k in
     place-as (a .args .reader) (now (a .args .points)) _ (settings k) _ (place-by (k .before .checked .given .0 .0) (a .args .reader) (now (a .args .points)) true _ (sym (c .if1 .taken) ∙ c .before .is-closed .ensures) refl _ refl)
 
 floats-of-requires : tie.Need-floats-of-requires
-floats-of-requires c κs = let k = c .before .before in open-right (k .before .before .before .before .before .before .before .args .reader) (k .before .checked .given .0 .0) (settings k)
+floats-of-requires c κs = let k = c .before .before in open-right (entry k .args .reader) (k .before .checked .given .0 .0) (settings k)
 
 returns-3 : tie.Need-returns-3
 returns-3 c =
     let k = c .before .before .before .before in
-    let a = c .before .before .before .before .before .before .before .before .before .before .before in
+    let a = entry k in
     place-as (a .args .reader) (now (a .args .points)) _ (settings k) _ (place-by (k .before .checked .given .0 .0) (a .args .reader) (now (a .args .points)) false true (going (c .before .before)) (sym (c .if2 .taken) ∙ ap (ltb (length (now (a .args .points)))) (c .before .floats-of .ensures .0)) _ refl)
 
 slice-aggregate-symbol-bits : tie.Need-slice-aggregate-symbol-bits
 slice-aggregate-symbol-bits c = search needs
 
 plan-of-requires : tie.Need-plan-of-requires
-plan-of-requires c κs = let k = c .before .before .before .before .before in open-right (k .before .before .before .before .before .before .before .args .reader) (k .before .checked .given .0 .0) (settings k)
+plan-of-requires c κs = let k = c .before .before .before .before .before in open-right (entry k .args .reader) (k .before .checked .given .0 .0) (settings k)
 
 symbol-bits-requires : tie.Need-symbol-bits-requires
 symbol-bits-requires c κs =
-    let k = c .before .before .before .before .before .before in
-    let a = c .before .before .before .before .before .before .before .before .before .before .before .before .before in
+    let k = told c in
+    let a = entry k in
     let s = k .before .checked .given .0 .0 in
     points-asked s (a .args .reader) (c .plan-of .result) (c .plan-of .ensures) _ _ (open-right (a .args .reader) s (settings k)) (in-range s (a .args .reader) (sym (going (c .before .before .before .before))))
     (omega (arith, ltb-false (length (now (a .args .points))) (c .before .before .before .floats-of .result) (c .before .before .if2 .left), c .before .before .before .floats-of .ensures .0)) (omega arith)
@@ -85,38 +92,42 @@ enum-known-found c = search needs
 
 cast-t23 : tie.Need-cast-t23
 cast-t23 c =
-    let k = c .before .before .before .before .before .before .before .before .before .before .before in
-    let a = c .before .before .before .before .before .before .before .before .before .before .before .before .before .before .before .before .before .before in
+    let p = c .before .before .before .before .before in
+    let k = told p in
+    let a = entry k in
     let s = k .before .checked .given .0 .0 in
     omega (
       arith,
       stream-few s (open-right (a .args .reader) s (settings k)) (now (a .args .points)) _ _ _ _ (c .before .found .given .1)
-          (search-by s (a .args .reader) (c .before .before .before .before .before .plan-of .result) (c .before .before .before .before .before .plan-of .ensures) (now (a .args .points)) _ (c .before .before .before .before .symbol-bits .ensures .0)),
+          (search-by s (a .args .reader) (p .plan-of .result) (p .plan-of .ensures) (now (a .args .points)) _ (c .before .before .before .before .symbol-bits .ensures .0)),
     )
 
 subcarrier-of-requires : tie.Need-subcarrier-of-requires
 subcarrier-of-requires c κs =
-    let k = c .before .before .before .before .before .before .before .before .before .before .before in
-    let a = c .before .before .before .before .before .before .before .before .before .before .before .before .before .before .before .before .before .before in
+    let p = c .before .before .before .before .before in
+    let k = told p in
+    let a = entry k in
     let s = k .before .checked .given .0 .0 in
-    (open-right (a .args .reader) s (settings k) .width, place-few s (now (a .args .points)) _ _ _ _ (c .before .found .given .1) (search-by s (a .args .reader) (c .before .before .before .before .before .plan-of .result) (c .before .before .before .before .before .plan-of .ensures) (now (a .args .points)) _ (c .before .before .before .before .symbol-bits .ensures .0)))
+    (open-right (a .args .reader) s (settings k) .width, place-few s (now (a .args .points)) _ _ _ _ (c .before .found .given .1) (search-by s (a .args .reader) (p .plan-of .result) (p .plan-of .ensures) (now (a .args .points)) _ (c .before .before .before .before .symbol-bits .ensures .0)))
 
 returns-4 : tie.Need-returns-4
 returns-4 c =
-    let k = c .before .before .before .before .before .before .before .before .before .before in
-    let a = c .before .before .before .before .before .before .before .before .before .before .before .before .before .before .before .before .before in
+    let p = c .before .before .before .before in
+    let k = told p in
+    let a = entry k in
     let s = k .before .checked .given .0 .0 in
-    place-as (a .args .reader) (now (a .args .points)) _ (settings k) _ (place-by s (a .args .reader) (now (a .args .points)) false false (going (c .before .before .before .before .before .before .before .before)) (sym (c .before .before .before .before .before .before .if2 .left) ∙ ap (ltb (length (now (a .args .points)))) (c .before .before .before .before .before .before .before .floats-of .ensures .0)) _
-    (sym (c .enum-told2 .given .1) ∙ search-by s (a .args .reader) (c .before .before .before .before .plan-of .result) (c .before .before .before .before .plan-of .ensures) (now (a .args .points)) _ (c .before .before .before .symbol-bits .ensures .0)))
+    place-as (a .args .reader) (now (a .args .points)) _ (settings k) _ (place-by s (a .args .reader) (now (a .args .points)) false false (going (p .before .before .before .before)) (sym (p .before .before .if2 .left) ∙ ap (ltb (length (now (a .args .points)))) (p .before .before .before .floats-of .ensures .0)) _
+    (sym (c .enum-told2 .given .1) ∙ search-by s (a .args .reader) (p .plan-of .result) (p .plan-of .ensures) (now (a .args .points)) _ (c .before .before .before .symbol-bits .ensures .0)))
 
 returns-5 : tie.Need-returns-5
 returns-5 c =
-    let k = c .before .before .before .before .before .before .before .before .before .before .before .before in
-    let a = c .before .before .before .before .before .before .before .before .before .before .before .before .before .before .before .before .before .before .before in
+    let p = c .before .before .before .before .before .before in
+    let k = told p in
+    let a = entry k in
     let s = k .before .checked .given .0 .0 in
     ap (Found (c .before .before .found .given .0 .0)) {x = toZ w32 (ofZ w32 (c .subcarrier-of .result))} (search needs ∙ c .subcarrier-of .ensures)
-    ∙ place-as (a .args .reader) (now (a .args .points)) (Accepted s) (settings k) _ (place-by s (a .args .reader) (now (a .args .points)) false false (going (c .before .before .before .before .before .before .before .before .before .before)) (sym (c .before .before .before .before .before .before .before .before .if2 .left) ∙ ap (ltb (length (now (a .args .points)))) (c .before .before .before .before .before .before .before .before .before .floats-of .ensures .0)) _
-    (sym (c .before .before .found .given .1) ∙ search-by s (a .args .reader) (c .before .before .before .before .before .before .plan-of .result) (c .before .before .before .before .before .before .plan-of .ensures) (now (a .args .points)) _ (c .before .before .before .before .before .symbol-bits .ensures .0)))
+    ∙ place-as (a .args .reader) (now (a .args .points)) (Accepted s) (settings k) _ (place-by s (a .args .reader) (now (a .args .points)) false false (going (p .before .before .before .before)) (sym (p .before .before .if2 .left) ∙ ap (ltb (length (now (a .args .points)))) (p .before .before .before .floats-of .ensures .0)) _
+    (sym (c .before .before .found .given .1) ∙ search-by s (a .args .reader) (p .plan-of .result) (p .plan-of .ensures) (now (a .args .points)) _ (c .before .before .before .before .before .symbol-bits .ensures .0)))
 
 pub place-spec : {M : Type 1} → statement M
 place-spec =
