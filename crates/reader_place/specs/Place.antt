@@ -4,6 +4,7 @@ use mathlib.Core.List.{List}
 use Prim.Native.Nat.{ℕ}
 use lib.Dec.{ltb}
 use lib.ListN.{length}
+use lib.IntN.{ℤ, pos}
 use lib.Ieee.{Float}
 use Rattle.settings.specs.declared.settings.Refusal.the-variants.{Room, Closed}
 use Rattle.settings.specs.declared.settings.Settings.{Settings}
@@ -36,8 +37,18 @@ placeBy (Refused r) st points = PlaceRefused Closed
 abbrev pub placeOf : Reader → List Float → PlaceAnswer
 placeOf st points = placeBy (checkOf (openRaw (st .settings))) st points
 
--- document 01's number of each case, 0 where the points were looked at
+-- document 01's number of each case, 0 where every point passes; the place of each
 abbrev pub placeNumber : PlaceAnswer → ℕ
 placeNumber Passed = 0
-placeNumber (Found i z) = 0
+placeNumber (Found i z) = 9
 placeNumber (PlaceRefused r) = numberOf r
+
+abbrev pub placeStream : PlaceAnswer → ℕ
+placeStream Passed = 0
+placeStream (Found i z) = i
+placeStream (PlaceRefused r) = 0
+
+abbrev pub placeSubcarrier : PlaceAnswer → ℤ
+placeSubcarrier Passed = pos 0
+placeSubcarrier (Found i z) = z
+placeSubcarrier (PlaceRefused r) = pos 0

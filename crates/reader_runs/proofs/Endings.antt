@@ -49,10 +49,7 @@ ended-slice st ended points payload =
 pub ended-by : (st : Reader) (points : List Float) (bytes : ℕ)
     → ((stepNumber (stepOf st points bytes .answer) ≡ 9) ⊎ ((stepNumber (stepOf st points bytes .answer) ≡ 10) ⊎ (stepNumber (stepOf st points bytes .answer) ≡ 11)))
     → stepOf st points bytes .state .ended ≡ true
-ended-by st points bytes =
-    let beside = refused-step-state st points bytes in
-    ⊎-elim (λ e. ap (λ (t : Reader). t .ended) (beside .1 .1 .0 e))
-    (⊎-elim (λ e. ap (λ (t : Reader). t .ended) (beside .1 .1 .1 .0 e)) (λ e. ap (λ (t : Reader). t .ended) (beside .1 .1 .1 .1 e)))
+ended-by st points bytes e = refused-step-state st points bytes .0 e .ended
 
 -- in a run an ended state stays
 module _ (o : OpenSettings) (S : ℕ → List Float) (bytes : ℕ → ℕ) (n : ℕ) (ended : stateBefore o S bytes n .ended ≡ true) where

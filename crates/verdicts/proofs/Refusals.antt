@@ -4,12 +4,12 @@ use mathlib.Core.Path.{_≡_, _∙_, refl, sym, ap, ap₂, subst}
 use mathlib.Core.Bool.{Bool, true, false, cond, not, _||_, _&&_}
 use mathlib.Core.List.{List, [], _∷_}
 use mathlib.Core.Logic.{_↔_, _⊎_, inl, inr, ⊎-elim}
-use Prim.Native.Nat.{ℕ, _+_, _<_}
+use Prim.Native.Nat.{ℕ, _+_, _<_, _≤_}
 use native.Mathlib.Omega.{arith}
 use borrow.Author.Tests.{ltb-false, le-ltb, not-true}
 use lib.Dec.{T, eqb, ltb}
 use lib.ListN.{length}
-use lib.IntN.{ℤ, pos}
+use lib.IntN.{ℤ}
 use lib.Ieee.{Float}
 use Rattle.laws.specs.Test.{below, below-of}
 use Rattle.laws.specs.Refusals.{Rule, firstOf}
@@ -43,11 +43,11 @@ use Rattle.acceptance.specs.declared.accept.StepAnswer.the-variants.{First, Nex
 use Rattle.acceptance.specs.declared.accept.Stepped.{Stepped}
 use Rattle.reader_place.specs.declared.place.PlaceAnswer.{PlaceAnswer}
 use Rattle.reader_place.specs.declared.place.PlaceAnswer.the-variants.{Passed, Found, Refused as PlaceRefused}
-use Rattle.reader_state.specs.State.{openRaw, startBy, startOf, startNumber, historyOf, firstBit, endedOf}
+use Rattle.reader_state.specs.State.{openRaw, startBy, startOf, startNumber, historyOf, firstBit, closedOf, endedOf}
 use Rattle.acceptance.specs.Accepted.{answered, scramblerFor, plainOf, frameRight, stepIntoBy, acceptedWith}
 use Rattle.reader.specs.Step.{bySearch, noRoom, stepOf, writtenBy, stepNumber, stepStream, stepSubcarrier}
-use Rattle.reader_place.specs.Place.{foundAs, placeBy, placeOf}
-use Rattle.verdicts.specs.Statements.{settingsIn, InReach, ClosedRow, StepRoomRow, PointRow, shownIn, inputIn, CodeRow, WrongBit, FrameRow, StepRefusals, FirstPlace, PlaceIsFirst, RefusedUnchanged, RefusedState, StartRefusals, PlaceTied}
+use Rattle.reader_place.specs.Place.{foundAs, placeBy, placeOf, placeNumber, placeStream, placeSubcarrier}
+use Rattle.verdicts.specs.Statements.{settingsIn, InReach, ClosedRow, StepRoomRow, PointRow, shownIn, inputIn, CodeRow, WrongBit, FrameRow, StepRefusals, FirstPlace, PlaceIsFirst, RefusedUnchanged, OnlyEnded, RefusedState, StartRefusals, PlaceTied}
 use Rattle.verdicts.proofs.StepCases.{heard, decoded, moved, step-open, reach, accepted-zero, step-by}
 
 -- the tests that a row does not apply
@@ -241,15 +241,21 @@ refused-step-unchanged st points payload = go (stepOf st points (length payload)
 -- what state stands beside each refusal
 abbrev Beside : Reader → Stepped → Type 0
 Beside st r =
-    (stepNumber (r .answer) ≡ 8 → r .state ≡ st) × ((stepNumber (r .answer) ≡ 12 → r .state ≡ st)
-    × ((stepNumber (r .answer) ≡ 9 → r .state ≡ endedOf st) × ((stepNumber (r .answer) ≡ 10 → r .state ≡ endedOf st)
-    × (stepNumber (r .answer) ≡ 11 → r .state ≡ endedOf st))))
+    (((stepNumber (r .answer) ≡ 9) ⊎ ((stepNumber (r .answer) ≡ 10) ⊎ (stepNumber (r .answer) ≡ 11))) → OnlyEnded st (r .state))
+    × (((stepNumber (r .answer) ≡ 8) ⊎ (stepNumber (r .answer) ≡ 12)) → r .state ≡ st)
+
+-- 9 to 11 stand between 8 and 12
+between : (n : ℕ) → ((n ≡ 9) ⊎ ((n ≡ 10) ⊎ (n ≡ 11))) → (8 < n) × (n < 12)
+between n = ⊎-elim (λ e. (omega (arith, e), omega (arith, e))) (⊎-elim (λ e. (omega (arith, e), omega (arith, e))) (λ e. (omega (arith, e), omega (arith, e))))
+
+outside : (n : ℕ) → ((n ≡ 8) ⊎ (n ≡ 12)) → (8 ≤ n) × (8 < n → n < 12 → ⊥)
+outside n = ⊎-elim (λ e. (omega (arith, e), λ low high. omega (arith, e, low))) (λ e. (omega (arith, e), λ low high. omega (arith, e, high)))
 
 pub refused-step-state : RefusedState
 refused-step-state st points bytes =
     step-by (Beside st) st
-    (λ e. refl, (λ e. refl, (λ e. absurd (omega (arith, e)), (λ e. absurd (omega (arith, e)), λ e. absurd (omega (arith, e))))))
-    (λ e. refl, (λ e. refl, (λ e. absurd (omega (arith, e)), (λ e. absurd (omega (arith, e)), λ e. absurd (omega (arith, e))))))
+    (given-back (StepRefused Closed) (λ low high. omega (arith, high)))
+    (given-back (StepRefused Room) (λ low high. omega (arith, low)))
     (λ i z. ended (BadPoint i z) (omega arith) (omega arith))
     (ended (StepRefused Code) (omega arith) (omega arith))
     (ended (StepRefused Frame) (omega arith) (omega arith))
@@ -257,14 +263,17 @@ refused-step-state st points bytes =
     (λ o. taken (acceptedWith st (scramblerFor st (heard (settingsIn st) st points))) (moved (settingsIn st) st points)
     (accepted-zero (eqb (st .symbol) 0) (scramblerFor st (heard (settingsIn st) st points))))
   where
+    given-back : (a : StepAnswer) → (8 < stepNumber a → stepNumber a < 12 → ⊥) → Beside st (answered a st)
+    given-back a out = (λ e. let b = between (stepNumber a) e in absurd (out (b .0) (b .1)), λ e. refl)
+
     ended : (a : StepAnswer) → 8 < stepNumber a → stepNumber a < 12 → Beside st (answered a (endedOf st))
-    ended a low high = (λ e. absurd (omega (arith, e, low)), (λ e. absurd (omega (arith, e, high)), (λ e. refl, (λ e. refl, λ e. refl))))
+    ended a low high = (
+      λ e. record { settings = refl; symbol = refl; histories = refl; scrambler = refl; part = refl; ended = refl },
+      λ e. absurd (outside (stepNumber a) e .1 low high),
+    )
 
     taken : (a : StepAnswer) (m : Reader) → stepNumber a ≡ 0 → Beside st (answered a m)
-    taken a m z = (
-      λ e. absurd (omega (arith, e, z)),
-      (λ e. absurd (omega (arith, e, z)), (λ e. absurd (omega (arith, e, z)), (λ e. absurd (omega (arith, e, z)), λ e. absurd (omega (arith, e, z))))),
-    )
+    taken a m z = (λ e. absurd (omega (arith, z, between (stepNumber a) e .0)), λ e. absurd (omega (arith, z, outside (stepNumber a) e .0)))
 
 -- the place that 9 returns is the first of a point that is not given
 nine-found : (st : Reader) (s : Settings) (points : List Float) (x : Search) (i : ℕ) (z : ℤ) → bySearch x s st points .answer ≡ BadPoint i z
@@ -282,8 +291,17 @@ room-not-nine : (st : Reader) (r : Bool) (x : Stepped) (i : ℕ) (z : ℤ) → c
 room-not-nine st true x i z e = absurd (let n : _≡_ {A = ℕ} 8 9 = ap stepNumber e in omega arith)
 room-not-nine st false x i z e = e
 
-pub place-is-first : PlaceIsFirst
-place-is-first st points bytes i z e = ⊎-elim opened closed (reach st points bytes)
+-- a step that gives 9 names a place
+nine-named : (st : Reader) (points : List Float) (bytes : ℕ) → let a = stepOf st points bytes .answer in
+    stepNumber a ≡ 9 → a ≡ BadPoint (stepStream a) (stepSubcarrier a)
+nine-named st points bytes =
+    step-by (λ r. stepNumber (r .answer) ≡ 9 → r .answer ≡ BadPoint (stepStream (r .answer)) (stepSubcarrier (r .answer))) st
+    (λ e. absurd (omega (arith, e))) (λ e. absurd (omega (arith, e))) (λ i z e. refl) (λ e. absurd (omega (arith, e))) (λ e. absurd (omega (arith, e)))
+    points bytes
+    (λ o e. absurd (omega (arith, e, accepted-zero (eqb (st .symbol) 0) (scramblerFor st (heard (settingsIn st) st points)))))
+
+named-first : (st : Reader) (points : List Float) (bytes i : ℕ) (z : ℤ) → stepOf st points bytes .answer ≡ BadPoint i z → FirstPlace st points i z
+named-first st points bytes i z e = ⊎-elim opened closed (reach st points bytes)
   where
     closed : stepOf st points bytes ≡ answered (StepRefused Closed) st → FirstPlace st points i z
     closed h = absurd (let n : _≡_ {A = ℕ} 12 9 = ap (λ (r : Stepped). stepNumber (r .answer)) (sym h) ∙ ap stepNumber e in omega arith)
@@ -314,6 +332,9 @@ place-is-first st points bytes i z e = ⊎-elim opened closed (reach st points b
         })
         (search-cases p points (s .format) (st .symbol))
 
+pub place-is-first : PlaceIsFirst
+place-is-first st points bytes nine = let e = nine-named st points bytes nine in (e, named-first st points bytes _ _ e)
+
 -- ---- the start
 
 -- its number is the settings'
@@ -338,20 +359,26 @@ start-refusals o =
 
 -- ---- the place call
 
-abbrev placeStream : PlaceAnswer → ℕ
-placeStream Passed = 0
-placeStream (Found i z) = i
-placeStream (PlaceRefused r) = 0
+-- a place call that gives 9 has found a place
+abbrev FoundNamed : PlaceAnswer → Type 0
+FoundNamed b = placeNumber b ≡ 9 → b ≡ Found (placeStream b) (placeSubcarrier b)
 
-abbrev placeSubcarrier : PlaceAnswer → ℤ
-placeSubcarrier Passed = pos 0
-placeSubcarrier (Found i z) = z
-placeSubcarrier (PlaceRefused r) = pos 0
+place-named : (st : Reader) (points : List Float) → FoundNamed (placeOf st points)
+place-named st points = go (checkOf (openRaw (st .settings)))
+  where
+    found : (x : Search) (s : Settings) → FoundNamed (foundAs x s)
+    found AllGiven s = λ e. absurd (omega (arith, e))
+    found (At i f) s = λ e. refl
 
-abbrev placeCase : PlaceAnswer → ℕ
-placeCase Passed = 0
-placeCase (Found i z) = 1
-placeCase (PlaceRefused r) = 2
+    tested : (closed small : Bool) (a : PlaceAnswer) → FoundNamed a → FoundNamed (cond closed (PlaceRefused Closed) (cond small (PlaceRefused Room) a))
+    tested true small a h = λ e. absurd (omega (arith, e))
+    tested false true a h = λ e. absurd (omega (arith, e))
+    tested false false a h = h
+
+    go : (x : Checked) → FoundNamed (placeBy x st points)
+    go (Accepted s) =
+        tested (closedOf s st) (ltb (length points) (floatsOf s)) _ (found (searchOf (planFor s) points (s .format) (st .symbol)) s)
+    go (Refused r) = λ e. absurd (omega (arith, e))
 
 tied-search : (st : Reader) (s : Settings) (points : List Float) (x : Search) (i : ℕ) (z : ℤ)
     → (bySearch x s st points .answer ≡ BadPoint i z) ↔ (foundAs x s ≡ Found i z)
@@ -359,19 +386,20 @@ tied-search st s points (At j f) i z =
     (λ e. ap₂ Found (ap stepStream e) (ap stepSubcarrier e), λ e. ap₂ BadPoint (ap placeStream e) (ap placeSubcarrier e))
 tied-search st s points AllGiven i z = (
   λ e. absurd (nine-found st s points AllGiven i z e refl),
-  λ e. absurd (let n : _≡_ {A = ℕ} 0 1 = ap placeCase e in omega arith),
+  λ e. absurd (let n : _≡_ {A = ℕ} 0 9 = ap placeNumber e in omega arith),
 )
 
 tied-room : (st : Reader) (small : Bool) (r : Stepped) (a : PlaceAnswer) (i : ℕ) (z : ℤ) → (r .answer ≡ BadPoint i z) ↔ (a ≡ Found i z)
     → (cond small (answered (StepRefused Room) st) r .answer ≡ BadPoint i z) ↔ (cond small (PlaceRefused Room) a ≡ Found i z)
 tied-room st true r a i z h = (
   λ e. absurd (let n : _≡_ {A = ℕ} 8 9 = ap stepNumber e in omega arith),
-  λ e. absurd (let n : _≡_ {A = ℕ} 2 1 = ap placeCase e in omega arith),
+  λ e. absurd (let n : _≡_ {A = ℕ} 8 9 = ap placeNumber e in omega arith),
 )
 tied-room st false r a i z h = h
 
-pub place-tied : PlaceTied
-place-tied st points bytes o enough i z =
+tied : (st : Reader) (points : List Float) (bytes : ℕ) → InReach st → settingsIn st .length ≤ bytes → (i : ℕ) (z : ℤ)
+    → (stepOf st points bytes .answer ≡ BadPoint i z) ↔ (placeOf st points ≡ Found i z)
+tied st points bytes o enough i z =
     let s = settingsIn st in
     let x = searchOf (planFor s) points (s .format) (st .symbol) in
     let small : noRoom s (length points) bytes ≡ ltb (length points) (floatsOf s) = last (ltb (length points) (floatsOf s)) (le-ltb bytes (s .length) enough) in
@@ -386,3 +414,13 @@ place-tied st points bytes o enough i z =
     last : (a : Bool) {b : Bool} → b ≡ false → (a || b) ≡ a
     last true e = refl
     last false e = e
+
+pub place-tied : PlaceTied
+place-tied st points bytes o enough = (
+  (λ e. ap placeNumber (tied st points bytes o enough _ _ .0 (nine-named st points bytes e)), λ e. ap stepNumber (step-named e)),
+  λ e. (place-named st points e, (ap stepStream (step-named e), ap stepSubcarrier (step-named e))),
+)
+  where
+    step-named : placeNumber (placeOf st points) ≡ 9
+        → stepOf st points bytes .answer ≡ BadPoint (placeStream (placeOf st points)) (placeSubcarrier (placeOf st points))
+    step-named e = tied st points bytes o enough _ _ .1 (place-named st points e)

@@ -1,11 +1,14 @@
 -- What is proved of the reader beside its contracts, in document 01's words. The terms are in proofs/.
 use mathlib.Core.Path.{_≡_}
+use mathlib.Core.Bool.{true}
 use mathlib.Core.List.{List}
 use mathlib.Core.Logic.{_↔_, _⊎_}
-use Prim.Native.Nat.{ℕ, _+_, _<_, _≤_}
-use lib.ListN.{length}
+use Prim.Native.Nat.{ℕ, _+_, _-_, _*_, _<_, _≤_}
+use lib.ListN.{length, getD}
 use lib.IntN.{ℤ}
 use lib.Ieee.{Float}
+use Rattle.chain.specs.Plan.{groupsOf}
+use Rattle.chain.specs.Decoder.{historyAfter, dealt}
 use Rattle.settings.specs.declared.settings.Settings.{Settings}
 use Rattle.settings.specs.declared.settings.Checked.the-variants.{Accepted}
 use Rattle.settings.specs.Settings.{checkOf, settingsOf, planFor}
@@ -19,10 +22,10 @@ use Rattle.reader_state.specs.declared.state.OpenSettings.{OpenSettings}
 use Rattle.reader_state.specs.declared.state.Reader.{Reader}
 use Rattle.acceptance.specs.declared.accept.StepAnswer.the-variants.{BadPoint}
 use Rattle.reader_place.specs.declared.place.PlaceAnswer.the-variants.{Found}
-use Rattle.reader_state.specs.State.{InRange, openRaw, startOf, startNumber, historyOf, firstBit, endedOf}
+use Rattle.reader_state.specs.State.{InRange, openRaw, startOf, startNumber, historyOf, firstBit}
 use Rattle.acceptance.specs.Accepted.{scramblerFor, plainOf}
-use Rattle.reader.specs.Step.{heardInput, stepOf, stepInto, stepNumber}
-use Rattle.reader_place.specs.Place.{placeOf}
+use Rattle.reader.specs.Step.{heardInput, stepOf, stepInto, stepNumber, stepStream, stepSubcarrier}
+use Rattle.reader_place.specs.Place.{placeOf, placeNumber, placeStream, placeSubcarrier}
 
 -- ---- refusals: each "given exactly when" its row applies and none tested before it does; 0 where none applies
 
@@ -94,19 +97,48 @@ pub record FirstPlace (st : Reader) (points : List Float) (i : ℕ) (z : ℤ) : 
       → PointByRules (planFor (settingsIn st)) points (settingsIn st .format) (st .symbol) j f
   pub places-before : (f : ℕ) → f < place → PointByRules (planFor (settingsIn st)) points (settingsIn st .format) (st .symbol) i f
 
+-- a step that gives 9 names its place, and that is the first
 abbrev pub PlaceIsFirst : Type 0
-PlaceIsFirst = (st : Reader) (points : List Float) (bytes i : ℕ) (z : ℤ) → stepOf st points bytes .answer ≡ BadPoint i z → FirstPlace st points i z
+PlaceIsFirst = (st : Reader) (points : List Float) (bytes : ℕ) → let a = stepOf st points bytes .answer in stepNumber a ≡ 9
+    → (a ≡ BadPoint (stepStream a) (stepSubcarrier a)) × FirstPlace st points (stepStream a) (stepSubcarrier a)
 
--- "A refusal .. writes nothing", and what state stands beside it: 8 and 12 give back the state as it was, 9 to 11 with only its end marked
+-- "A refusal .. writes nothing"
 abbrev pub RefusedUnchanged : Type 0
 RefusedUnchanged = (st : Reader) (points : List Float) (payload : List ℕ) → (stepNumber (stepOf st points (length payload) .answer) ≡ 0 → ⊥)
     → stepInto st points payload ≡ payload
 
+-- "the state given with only its end marked", field by field
+pub record OnlyEnded (st st′ : Reader) : Type 0 where
+  pub settings : st′ .settings ≡ st .settings
+  pub symbol : st′ .symbol ≡ st .symbol
+  pub histories : st′ .histories ≡ st .histories
+  pub scrambler : st′ .scrambler ≡ st .scrambler
+  pub part : st′ .part ≡ st .part
+  pub ended : st′ .ended ≡ true
+
+-- "Refusals 9, 10, 11 return the state given with only its end marked; 8 and 12 return the state given"
 abbrev pub RefusedState : Type 0
 RefusedState = (st : Reader) (points : List Float) (bytes : ℕ) → let r = stepOf st points bytes in
-    (stepNumber (r .answer) ≡ 8 → r .state ≡ st) × ((stepNumber (r .answer) ≡ 12 → r .state ≡ st)
-    × ((stepNumber (r .answer) ≡ 9 → r .state ≡ endedOf st) × ((stepNumber (r .answer) ≡ 10 → r .state ≡ endedOf st)
-    × (stepNumber (r .answer) ≡ 11 → r .state ≡ endedOf st))))
+    (((stepNumber (r .answer) ≡ 9) ⊎ ((stepNumber (r .answer) ≡ 10) ⊎ (stepNumber (r .answer) ≡ 11))) → OnlyEnded st (r .state))
+    × (((stepNumber (r .answer) ≡ 8) ⊎ (stepNumber (r .answer) ≡ 12)) → r .state ≡ st)
+
+-- ---- histories
+
+-- "With one encoder the second history stays as given", whatever the answer
+abbrev pub SecondHistoryKept : Type 0
+SecondHistoryKept = (st : Reader) (points : List Float) (bytes : ℕ) → planFor (settingsIn st) .encoders ≡ 1
+    → getD (stepOf st points bytes .state .histories) 1 0 ≡ getD (st .histories) 1 0
+
+-- "Encoders NES: 1 for NSS 1 and 2, else 2": one exactly below MCS 16
+abbrev pub OneEncoder : Type 0
+OneEncoder = (s : Settings) → (planFor s .encoders ≡ 1) ↔ (s .mcs < 16)
+
+-- an accepted step moves each encoder's history by that encoder's own inputs
+abbrev pub HistoriesMoved : Type 0
+HistoriesMoved = (st : Reader) (points : List Float) (bytes : ℕ) → let p = planFor (settingsIn st) in
+    stepNumber (stepOf st points bytes .answer) ≡ 0 → (j : ℕ) → j < p .encoders
+    → getD (stepOf st points bytes .state .histories) j 0
+    ≡ historyAfter (getD (st .histories) j 0) (dealt (inputIn st points) (p .encoders) j) ((p .kept - 1) * groupsOf p)
 
 -- the start: 1 to 4, and 5 never; beside a refusal a state from which every step is 12
 abbrev pub StartRefusals : Type 0
@@ -115,5 +147,7 @@ StartRefusals = (o : OpenSettings) → let n = startNumber (startOf o .answer) i
 
 -- the place call and the step are of one search: with room for both, the step gives 9 exactly where the place call finds a place, and it is the same
 abbrev pub PlaceTied : Type 0
-PlaceTied = (st : Reader) (points : List Float) (bytes : ℕ) → InReach st → settingsIn st .length ≤ bytes → (i : ℕ) (z : ℤ)
-    → (stepOf st points bytes .answer ≡ BadPoint i z) ↔ (placeOf st points ≡ Found i z)
+PlaceTied = (st : Reader) (points : List Float) (bytes : ℕ) → InReach st → settingsIn st .length ≤ bytes
+    → let a = stepOf st points bytes .answer in let b = placeOf st points in
+    ((stepNumber a ≡ 9) ↔ (placeNumber b ≡ 9))
+    × (placeNumber b ≡ 9 → (b ≡ Found (placeStream b) (placeSubcarrier b)) × ((stepStream a ≡ placeStream b) × (stepSubcarrier a ≡ placeSubcarrier b)))
