@@ -1,10 +1,11 @@
 /* Calls the core from C through the header: the first line of document 01's listing, there and back; then the points
  * and the subcarriers of its second line's frame; then a frame of two symbols, written and read back by steps and by one
- * call. */
+ * call; then frames of every MCS under other floating-point environments. */
 #include "../include/ht_core.h"
 
 #include <stdio.h>
 #include <string.h>
+#include <xmmintrin.h>
 
 static int failures;
 
@@ -226,12 +227,104 @@ static void check_read_frame(void) {
     expect(memcmp(read, sent, sizeof sent), 0, "its payload, exact room");
 }
 
+/* The floating-point environment of an x86-64 program: MXCSR. The proofs are of the default one, which rounds to nearest. */
+static const struct environment {
+    unsigned bits;
+    const char *name;
+} environments[] = {
+    {0x0000, "rounding to nearest"},
+    {0x2000, "rounding downwards"},
+    {0x4000, "rounding upwards"},
+    {0x6000, "rounding towards zero"},
+    {0x8040, "subnormal numbers as zero"},
+    {0xA040, "rounding downwards, subnormal numbers as zero"},
+};
+
+/* Whether a program is in that environment: what 0 - 0 is, and whether the smallest number is 0. */
+static void expect_environment(const struct environment *e) {
+    static const uint32_t smallest_bits = 1;
+    volatile float zero = 0, difference, smallest;
+    uint32_t bits;
+    float got;
+    memcpy(&got, &smallest_bits, sizeof got);
+    smallest = got;
+    difference = zero - zero;
+    got = difference;
+    memcpy(&bits, &got, sizeof bits);
+    expect(bits, (e->bits & 0x6000) == 0x2000 ? 0x80000000 : 0, e->name);
+    expect(smallest == 0, (e->bits & 0x0040) != 0, e->name);
+}
+
+enum { FRAME_BYTES = 40, FRAME_FLOATS = 2400 };
+
+/* What the calls answer for one frame: its points, what the subcarriers of symbol 0 carry, the payload that is read back,
+ * and the answers where a zero among the points is another float. */
+struct answers {
+    int64_t symbols, seed, negative_zero, smallest, carries[4][128];
+    float points[FRAME_FLOATS], carried[4][128][2];
+    uint8_t payload[FRAME_BYTES];
+};
+
+static int64_t read_changed(uint32_t width, uint32_t mcs, const struct answers *a, size_t floats, size_t at, uint32_t bits) {
+    static float points[FRAME_FLOATS];
+    uint8_t payload[FRAME_BYTES];
+    memcpy(points, a->points, sizeof points);
+    memcpy(points + at, &bits, sizeof bits);
+    return ht_read_frame(width, mcs, 0, FRAME_BYTES, 1, 1, 0, 0, points, floats, payload, FRAME_BYTES);
+}
+
+static void answer(uint32_t width, uint32_t mcs, struct answers *a) {
+    static const float zero = 0;
+    static const uint32_t bytes = FRAME_BYTES;
+    uint8_t sent[FRAME_BYTES];
+    size_t floats = 0, at = 0;
+    int32_t half = width == 40 ? 64 : 32;
+    memset(a, 0, sizeof *a);
+    for (size_t j = 0; j < sizeof sent; j++)
+        sent[j] = (uint8_t)(37 * j + mcs);
+    a->symbols = ht_symbol_count(width, mcs, 0, bytes, 77, 1, 1, 0, 0);
+    for (uint32_t n = 0; n < a->symbols; n++)
+        floats += (size_t)ht_points(width, mcs, 0, bytes, 77, 1, 1, 0, 0, sent, bytes, n, a->points + floats, FRAME_FLOATS - floats);
+    for (uint32_t i = 0; i <= mcs / 8; i++)
+        for (int32_t k = -half; k < half; k++)
+            a->carries[i][k + half] =
+                ht_carrier(width, mcs, 0, bytes, 77, 1, 1, 0, 0, sent, bytes, 0, i, k, a->carried[i][k + half], 2);
+    a->seed = ht_read_frame(width, mcs, 0, bytes, 1, 1, 0, 0, a->points, floats, a->payload, bytes);
+    expect(a->seed, 77, "a frame's seed");
+    expect(memcmp(a->payload, sent, sizeof sent), 0, "a frame's payload");
+    /* Each symbol has pilots, and a pilot a zero. */
+    while (at < floats && memcmp(a->points + at, &zero, sizeof zero) != 0)
+        at++;
+    a->negative_zero = read_changed(width, mcs, a, floats, at, 0x80000000);
+    a->smallest = read_changed(width, mcs, a, floats, at, 1);
+    expect(a->negative_zero, -HT_POINT, "a negative zero in a frame");
+    expect(a->smallest, -HT_POINT, "a subnormal number in a frame");
+}
+
+/* Frames of every MCS and width: the same bits whatever the environment. At 40 MHz points above 0 are turned, zeros among them. */
+static void check_environments(void) {
+    static struct answers want, got;
+    unsigned usual = _mm_getcsr();
+    for (uint32_t width = 20; width <= 40; width += 20)
+        for (uint32_t mcs = 0; mcs < 32; mcs++) {
+            answer(width, mcs, &want);
+            for (size_t e = 0; e < sizeof environments / sizeof *environments; e++) {
+                _mm_setcsr(usual | environments[e].bits);
+                expect_environment(&environments[e]);
+                answer(width, mcs, &got);
+                _mm_setcsr(usual);
+                expect(memcmp(&got, &want, sizeof want), 0, environments[e].name);
+            }
+        }
+}
+
 int main(void) {
     check_signal();
     check_points();
     check_carrier();
     check_reader();
     check_read_frame();
+    check_environments();
     if (failures == 0)
         printf("C calls: ok\n");
     return failures != 0;

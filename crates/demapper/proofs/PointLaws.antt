@@ -21,7 +21,8 @@ use Rattle.modulator.specs.Symbol.{turnedIf}
 use Rattle.modulator.specs.Asked.{pilotPoint}
 use Rattle.modulator.proofs.RunningLaws.{pilot-point-whole}
 use Rattle.demapper.specs.declared.point.PointLabels.{PointLabels}
-use Rattle.demapper.specs.Demapped.{sameBits, levelLabel, negatedLabel, firstLabel, secondLabel, secondLabels, dataGiven, bitOfLabel, pointBit}
+use Rattle.demapper.specs.Demapped.{sameBits, levelLabel, negatedLabel}
+use Rattle.demapper.specs.Demapped.{firstLabel, secondLabel, secondLabels, dataGiven, bitOfLabel, pointBit}
 use Rattle.demapper.specs.Asked.{PointTables, PointRead, DataHeard, pilotHeard}
 use Rattle.demapper.proofs.LabelLaws.{all-labels}
 

@@ -37,7 +37,7 @@ pub record Small (l : Levels) : Type 0 where
   pub first : natAbs (l .first) < 8
   pub second : natAbs (l .second) < 8
 
--- a level's negative, "zero has a clear sign bit": of zero that zero, of every other float the float with its sign flipped, which rounds nothing
+-- a level's negative: of zero "zero has a clear sign bit", of every other float the float with its sign flipped; nothing is rounded
 unfoldable pub negatedLevel : Float → Float
 negatedLevel x = cond (eq x (whole (pos 0))) (whole (pos 0)) (neg x)
 

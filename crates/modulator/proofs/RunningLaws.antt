@@ -36,21 +36,24 @@ use Rattle.modulator.specs.Symbol.{usedLevels, turnedIf, axisLevel, stre
 use Rattle.modulator.specs.Asked.{halvesFrom, halvesIn, runLevel, RunAsked, pilotPoint, StreamAsked, SegmentFilled, StreamFilled, SymbolAsked}
 
 -- a point that is turned, and one that is not
-pub turned-point : (t : Bool) (l : Levels) (p r : Point) → t ≡ true → Small l → p ≡ pointOf l → r ≡ turnedPoint p → r ≡ pointOf (turnedIf t l)
+pub turned-point : (t : Bool) (l : Levels) (p r : Point) → t ≡ true → Small l → p ≡ pointOf l → r ≡ turnedPoint p
+    → r ≡ pointOf (turnedIf t l)
 turned-point t l p r e small made turned = rw e (turned ∙ ap turnedPoint made ∙ turned-whole l small)
 
 pub plain-point : (t : Bool) (l : Levels) (p : Point) → t ≡ false → p ≡ pointOf l → p ≡ pointOf (turnedIf t l)
 plain-point t l p e made = rw e made
 
 -- a pilot's point, by the turn
-pub pilot-turned : (sign : Float) (t : Bool) (r : Point) → t ≡ true → r ≡ turnedPoint (record { first = sign; second = whole (pos 0) }) → r ≡ pilotPoint sign t
+pub pilot-turned : (sign : Float) (t : Bool) (r : Point) → t ≡ true → r ≡ turnedPoint (record { first = sign; second = whole (pos 0) })
+    → r ≡ pilotPoint sign t
 pilot-turned sign t r e turned = rw e turned
 
 pub pilot-plain : (sign : Float) (t : Bool) → t ≡ false → record { first = sign; second = whole (pos 0) } ≡ pilotPoint sign t
 pilot-plain sign t e = rw e
 
 -- where its sign is the float of a small whole number
-pub pilot-point-whole : (sign : Float) (t : Bool) (s : ℤ) → natAbs s < 8 → sign ≡ whole s → pilotPoint sign t ≡ pointOf (turnedIf t (levels s (pos 0)))
+pub pilot-point-whole : (sign : Float) (t : Bool) (s : ℤ) → natAbs s < 8 → sign ≡ whole s
+    → pilotPoint sign t ≡ pointOf (turnedIf t (levels s (pos 0)))
 pilot-point-whole sign t s small e = ap (λ (x : Float). pilotPoint x t) e ∙ by-turn t
   where
     by-turn : (t : Bool) → pilotPoint (whole s) t ≡ pointOf (turnedIf t (levels s (pos 0)))

@@ -4,7 +4,8 @@ use chain::plan::Plan;
 ghost use mathlib.Core.Path.{_≡_};
 ghost use lib.Dec.{ltb};
 ghost use Rattle.chain.specs.Plan.{streamsOf};
-ghost use Rattle.settings.specs.Settings.{numberOf, badWidth, badMcs, badFormat, badLength, badSeed, checkOf, IsRefused, encodersOf, planFor, Right};
+ghost use Rattle.settings.specs.Settings.{badWidth, badMcs, badFormat, badLength, badSeed};
+ghost use Rattle.settings.specs.Settings.{numberOf, checkOf, IsRefused, encodersOf, planFor, Right};
 
 // The refusals of document 01's table, in its order.
 pub enum Refusal {

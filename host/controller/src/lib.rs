@@ -24,6 +24,13 @@
 //! one subcarrier of it carries. [`Reader`] takes the symbols 0, 1, 2 and so on back and gives the
 //! payload and the seed, or refuses what no frame of its settings is. [`read_frame`] does this by one
 //! call for a frame whose points stand in one slice.
+//!
+//! The proofs are of the default floating-point environment: rounding to nearest, exceptions masked, as
+//! every Rust program begins. Another rounding, or subnormal numbers taken as zero, changes no answer,
+//! which is tested and not proved. A signalling NaN among the points that are read raises the exception
+//! "invalid operation"; where code outside of Rust has unmasked it, that ends the program. The proofs
+//! know one NaN and no bits of it: that NaNs in lent memory keep their bits where a call writes nothing
+//! is checked in the source and tested.
 
 #![deny(unsafe_code)]
 

@@ -24,14 +24,21 @@ const LEVELS: [u32; 9] = [
 /// What lent memory holds before a call, by the place in it.
 type Fill = fn(usize) -> u32;
 
-/// A quiet NaN, a signalling one, signalling ones that all differ, negative zeros, ordinary numbers.
-const FILLS: [Fill; 5] = [
+/// A quiet NaN, a signalling one, signalling ones that all differ, negative zeros, ordinary numbers, and NaNs of all kinds.
+const FILLS: [Fill; 6] = [
     |_| 0x7FC0_0000,
     |_| 0x7FA0_0001,
     |place| 0xFF80_0001 + place as u32,
     |_| 0x8000_0000,
     |place| (0.37 * place as f32 - 11.0).to_bits(),
+    any_nan,
 ];
+
+/// NaNs, no two of neighbouring places alike: quiet and signalling, of both signs, each payload bit set in some.
+fn any_nan(place: usize) -> u32 {
+    let mixed = (place as u32 + 1).wrapping_mul(0x9E37_79B1);
+    (mixed << 31) | 0x7F80_0000 | (mixed >> 9).max(1)
+}
 
 /// Memory with `room` floats to lend between the guards.
 fn memory(room: usize, fill: Fill) -> Vec<f32> {
@@ -192,7 +199,7 @@ fn every_room_and_fill() {
             }
         }
     }
-    assert_eq!(calls, [64 * 3 * 5, 64 * 3 * 5]);
+    assert_eq!(calls, [64 * 3 * FILLS.len(); 2]);
 }
 
 /// Bytes past the length are not looked at; one byte too few is 6 for every symbol, also for one without payload bits.
@@ -441,6 +448,49 @@ fn refusals_come_in_order() {
         }
     }
     assert_eq!(given, [8, 1024, 512, 256, 128, 64, 32, 16, 8]);
+}
+
+/// The proofs know one NaN only; here lent floats hold NaNs of many bit patterns. Each stays as it is, bit for bit, under every refusal
+/// of both calls, past what they write, and under a silent subcarrier.
+#[test]
+fn nans_keep_their_bits() {
+    let nans: Vec<u32> = (0..GUARD + MAX_FLOATS + GUARD).map(any_nan).collect();
+    assert!(nans.iter().all(|bits| f32::from_bits(*bits).is_nan()));
+    assert!(nans.windows(2).all(|pair| pair[0] != pair[1]));
+    assert_eq!(nans.iter().fold(0, |all, bits| all | bits), u32::MAX);
+    for (sign, quiet) in [(0, 0), (0, 1), (1, 0), (1, 1)] {
+        let kind = |bits: &&u32| **bits >> 31 == sign && **bits >> 22 & 1 == quiet;
+        assert!(nans.iter().filter(kind).count() > 100);
+    }
+
+    let mut draw = Draw::new(20);
+    let pool = draw.bytes(400);
+    let (mut given, mut answered) = ([0; 9], [0; 3]);
+    for fill in [FILLS[0], FILLS[1], FILLS[2], any_nan] {
+        for number in 0..=8 {
+            for _ in 0..30 {
+                let good = accepted_call(&mut draw, 300);
+                let mut call = good;
+                if number > 0 {
+                    spoil(&mut call, &good, number, &mut draw);
+                }
+                let got = compare_call(&call, &pool, fill);
+                assert_eq!(got.err().unwrap_or(0), number, "{call:?}");
+                given[number as usize] += 1;
+                // Another 7 or 8 of the question, or any of its answers.
+                if let Ok(levels) = compare_question(&call, &pool, fill) {
+                    answered[levels.len()] += 1;
+                }
+                let silent = Call {
+                    subcarrier: draw.of(&[0, question_range(good.s.width).0]),
+                    ..good
+                };
+                assert_eq!(compare_question(&silent, &pool, fill), Ok(vec![]));
+            }
+        }
+    }
+    assert_eq!(given, [4 * 30; 9]);
+    assert!(answered.iter().all(|count| *count > 10), "{answered:?}");
 }
 
 /// Numbers that would pass if they were cut to 8 or 16 bits, with slices that would suffice.
@@ -701,5 +751,5 @@ fn the_question_needs_two_floats_whatever_the_answer() {
         }
     }
     // Streams and one beyond: 2 and 4 at 20 MHz, 2 and 5 at 40.
-    assert_eq!(calls, ((2 + 4) * 68 + (2 + 5) * 132) * 2 * 5);
+    assert_eq!(calls, ((2 + 4) * 68 + (2 + 5) * 132) * 2 * FILLS.len());
 }
