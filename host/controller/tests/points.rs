@@ -477,7 +477,7 @@ fn nans_keep_their_bits() {
                 let got = compare_call(&call, &pool, fill);
                 assert_eq!(got.err().unwrap_or(0), number, "{call:?}");
                 given[number as usize] += 1;
-                // Another 7 or 8 of the question, or any of its answers.
+                // The question is refused too, or answered; 8 is its answer with two floats of its own.
                 if let Ok(levels) = compare_question(&call, &pool, fill) {
                     answered[levels.len()] += 1;
                 }
