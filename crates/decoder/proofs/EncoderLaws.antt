@@ -52,7 +52,7 @@ apart e t j k n l h same =
     let high : (e * t + j) % e ≡ n = rem-of e k n (e * t + j) h (same ∙ rw (mul-comm e k)) in
     omega arith
 
--- the first n encoders' inverse: their histories and inputs, all else as it was, and a count that is 0 exactly when all their groups are right
+-- the first n encoders' inverse: their histories and inputs, all else as it was; a count that is 0 exactly when all their groups are right
 pub record Passed (hs : ℕ → ℕ) (c : ℕ → ℕ → ℕ) (e q groups n : ℕ) (histories : List ℕ) (wrong : ℕ) (inputs₀ inputs : List ℕ) : Type 0 where
   pub within : n ≤ e
   pub two : length histories ≡ 2
@@ -82,7 +82,8 @@ module _ (hs : ℕ → ℕ) (c : ℕ → ℕ → ℕ) (e q groups : ℕ) where
     few = omega arith;
   }
 
-  module _ (n : ℕ) (histories : List ℕ) (wrong : ℕ) (inputs₀ inputs : List ℕ) (p : Passed hs c e q groups n histories wrong inputs₀ inputs) where
+  module _ (n : ℕ) (histories : List ℕ) (wrong : ℕ) (inputs₀ inputs : List ℕ)
+      (p : Passed hs c e q groups n histories wrong inputs₀ inputs) where
     -- one more
     pub passed-more : (h wrong′ : ℕ) (inputs′ : List ℕ) → n < e → e ≤ 2 → EncoderDone (hs n) (c n) q groups e n h wrong′ inputs inputs′
         → Passed hs c e q groups (n + 1) (set histories n h) (wrong + wrong′) inputs₀ inputs′
@@ -91,7 +92,9 @@ module _ (hs : ℕ → ℕ) (c : ℕ → ℕ → ℕ) (e q groups : ℕ) where
         record {
           within = omega arith;
           two = length-set histories n h ∙ p .two;
-          moved = below-more _ n (λ j b. getD-set-other histories n j h 0 (λ r. omega (arith, r)) ∙ p .moved j b) (getD-set-same histories n h 0 here ∙ d .part .moved);
+          moved = below-more _ n
+              (λ j b. getD-set-other histories n j h 0 (λ r. omega (arith, r)) ∙ p .moved j b)
+              (getD-set-same histories n h 0 here ∙ d .part .moved);
           others = λ j b. getD-set-other histories n j h 0 (λ r. omega (arith, r)) ∙ p .others j (omega arith);
           same = d .part .forced .same ∙ p .same;
           done = below-more _ n
@@ -123,7 +126,9 @@ module _ (hs : ℕ → ℕ) (c : ℕ → ℕ → ℕ) (e q groups : ℕ) where
             before = λ d l. absurd (omega arith);
             after = λ d l. p .rest d (λ j b t m r. omega (arith, r, rw mul-suc at (mul-le-mul-left e m)));
           };
-          checked = count-checks hs c e q groups wrong (λ z j l. p .sound z j (omega arith)) (λ right. p .full (λ j b. right j (omega arith)));
+          checked = count-checks hs c e q groups wrong
+              (λ z j l. p .sound z j (omega arith))
+              (λ right. p .full (λ j b. right j (omega arith)));
         }
 
 -- what the call for encoder j asks, after any of the histories

@@ -1,14 +1,11 @@
--- The encoders' histories in the state that a step returns: with one encoder the second stays, and an accepted step moves each encoder's own. Assumes nothing.
+-- The encoders' histories in the state that a step returns: with one encoder the second stays, an accepted step moves each encoder's own.
+-- Assumes nothing.
 use mathlib.Core.Path.{_≡_, _∙_, refl}
-use mathlib.Core.Bool.{true, false, cond}
-use mathlib.Core.List.{List}
-use mathlib.Core.Logic.{⊎-elim, _↔_}
+use mathlib.Core.Logic.{⊎-elim}
 use Prim.Native.Nat.{ℕ, zero, suc, _-_, _*_, _<_, _≤_}
 use native.Mathlib.Omega.{arith}
 use borrow.Author.Tests.{lt-ltb, le-ltb}
-use lib.Dec.{eqb}
 use lib.ListN.{getD}
-use lib.Ieee.{Float}
 use Rattle.laws.proofs.Search.{lt-or-le}
 use Rattle.chain.specs.declared.plan.Plan.{Plan}
 use Rattle.chain.specs.Plan.{streamsOf, groupsOf}
@@ -19,10 +16,9 @@ use Rattle.settings.proofs.SettingsLaws.{planned-encoders, encoders-few}
 use Rattle.decoder.specs.Decoded.{historyMoved}
 use Rattle.reader_state.specs.declared.state.Reader.{Reader}
 use Rattle.reader_state.specs.State.{historyOf}
-use Rattle.acceptance.specs.Accepted.{scramblerFor}
-use Rattle.reader.specs.Step.{historiesAfter, stepOf, stepNumber}
+use Rattle.reader.specs.Step.{historiesAfter, stepNumber}
 use Rattle.verdicts.specs.Statements.{settingsIn, inputIn, SecondHistoryKept, OneEncoder, HistoriesMoved}
-use Rattle.verdicts.proofs.StepCases.{heard, moved, step-by}
+use Rattle.verdicts.proofs.StepCases.{heard, step-by}
 
 -- a history that no encoder has, and an encoder's own
 other-history : (p : Plan) (hs X : ℕ → ℕ) (j : ℕ) → p .encoders ≤ j → historyMoved p hs X j ≡ hs j
@@ -62,7 +58,8 @@ histories-moved st points bytes =
     let s = settingsIn st in
     let p = planFor s in
     step-by (λ r. stepNumber (r .answer) ≡ 0 → (j : ℕ) → j < p .encoders
-    → getD (r .state .histories) j 0 ≡ historyAfter (getD (st .histories) j 0) (dealt (inputIn st points) (p .encoders) j) ((p .kept - 1) * groupsOf p)) st
+    → getD (r .state .histories) j 0
+    ≡ historyAfter (getD (st .histories) j 0) (dealt (inputIn st points) (p .encoders) j) ((p .kept - 1) * groupsOf p)) st
     (λ e. absurd (omega (arith, e))) (λ e. absurd (omega (arith, e))) (λ i z e. absurd (omega (arith, e))) (λ e. absurd (omega (arith, e)))
     (λ e. absurd (omega (arith, e))) points bytes
     (λ o e. both-moved s st (heard s st points))

@@ -42,12 +42,14 @@ use Rattle.acceptance.specs.declared.accept.StepAnswer.{StepAnswer}
 use Rattle.acceptance.specs.declared.accept.StepAnswer.the-variants.{First, Next, BadPoint, Refused as StepRefused}
 use Rattle.acceptance.specs.declared.accept.Stepped.{Stepped}
 use Rattle.reader_place.specs.declared.place.PlaceAnswer.{PlaceAnswer}
-use Rattle.reader_place.specs.declared.place.PlaceAnswer.the-variants.{Passed, Found, Refused as PlaceRefused}
+use Rattle.reader_place.specs.declared.place.PlaceAnswer.the-variants.{Found, Refused as PlaceRefused}
 use Rattle.reader_state.specs.State.{openRaw, startBy, startOf, startNumber, historyOf, firstBit, closedOf, endedOf}
 use Rattle.acceptance.specs.Accepted.{answered, scramblerFor, plainOf, frameRight, stepIntoBy, acceptedWith}
 use Rattle.reader.specs.Step.{bySearch, noRoom, stepOf, writtenBy, stepNumber, stepStream, stepSubcarrier}
 use Rattle.reader_place.specs.Place.{foundAs, placeBy, placeOf, placeNumber, placeStream, placeSubcarrier}
-use Rattle.verdicts.specs.Statements.{settingsIn, InReach, ClosedRow, StepRoomRow, PointRow, shownIn, inputIn, CodeRow, WrongBit, FrameRow, StepRefusals, FirstPlace, PlaceIsFirst, RefusedUnchanged, OnlyEnded, RefusedState, StartRefusals, PlaceTied}
+use Rattle.verdicts.specs.Statements.{settingsIn, InReach, ClosedRow, StepRoomRow, PointRow, shownIn, inputIn, CodeRow}
+use Rattle.verdicts.specs.Statements.{WrongBit, FrameRow, StepRefusals, FirstPlace, PlaceIsFirst, RefusedUnchanged}
+use Rattle.verdicts.specs.Statements.{OnlyEnded, RefusedState, StartRefusals, PlaceTied}
 use Rattle.verdicts.proofs.StepCases.{heard, decoded, moved, step-open, reach, accepted-zero, step-by}
 
 -- the tests that a row does not apply
@@ -246,10 +248,14 @@ Beside st r =
 
 -- 9 to 11 stand between 8 and 12
 between : (n : ℕ) → ((n ≡ 9) ⊎ ((n ≡ 10) ⊎ (n ≡ 11))) → (8 < n) × (n < 12)
-between n = ⊎-elim (λ e. (omega (arith, e), omega (arith, e))) (⊎-elim (λ e. (omega (arith, e), omega (arith, e))) (λ e. (omega (arith, e), omega (arith, e))))
+between n =
+    ⊎-elim (λ e. (omega (arith, e), omega (arith, e)))
+    (⊎-elim (λ e. (omega (arith, e), omega (arith, e))) (λ e. (omega (arith, e), omega (arith, e))))
 
 outside : (n : ℕ) → ((n ≡ 8) ⊎ (n ≡ 12)) → (8 ≤ n) × (8 < n → n < 12 → ⊥)
-outside n = ⊎-elim (λ e. (omega (arith, e), λ low high. omega (arith, e, low))) (λ e. (omega (arith, e), λ low high. omega (arith, e, high)))
+outside n =
+    ⊎-elim (λ e. (omega (arith, e), λ low high. omega (arith, e, low)))
+    (λ e. (omega (arith, e), λ low high. omega (arith, e, high)))
 
 pub refused-step-state : RefusedState
 refused-step-state st points bytes =
@@ -296,11 +302,12 @@ nine-named : (st : Reader) (points : List Float) (bytes : ℕ) → let a = stepO
     stepNumber a ≡ 9 → a ≡ BadPoint (stepStream a) (stepSubcarrier a)
 nine-named st points bytes =
     step-by (λ r. stepNumber (r .answer) ≡ 9 → r .answer ≡ BadPoint (stepStream (r .answer)) (stepSubcarrier (r .answer))) st
-    (λ e. absurd (omega (arith, e))) (λ e. absurd (omega (arith, e))) (λ i z e. refl) (λ e. absurd (omega (arith, e))) (λ e. absurd (omega (arith, e)))
-    points bytes
+    (λ e. absurd (omega (arith, e))) (λ e. absurd (omega (arith, e))) (λ i z e. refl)
+    (λ e. absurd (omega (arith, e))) (λ e. absurd (omega (arith, e))) points bytes
     (λ o e. absurd (omega (arith, e, accepted-zero (eqb (st .symbol) 0) (scramblerFor st (heard (settingsIn st) st points)))))
 
-named-first : (st : Reader) (points : List Float) (bytes i : ℕ) (z : ℤ) → stepOf st points bytes .answer ≡ BadPoint i z → FirstPlace st points i z
+named-first : (st : Reader) (points : List Float) (bytes i : ℕ) (z : ℤ)
+    → stepOf st points bytes .answer ≡ BadPoint i z → FirstPlace st points i z
 named-first st points bytes i z e = ⊎-elim opened closed (reach st points bytes)
   where
     closed : stepOf st points bytes ≡ answered (StepRefused Closed) st → FirstPlace st points i z
@@ -370,7 +377,8 @@ place-named st points = go (checkOf (openRaw (st .settings)))
     found AllGiven s = λ e. absurd (omega (arith, e))
     found (At i f) s = λ e. refl
 
-    tested : (closed small : Bool) (a : PlaceAnswer) → FoundNamed a → FoundNamed (cond closed (PlaceRefused Closed) (cond small (PlaceRefused Room) a))
+    tested : (closed small : Bool) (a : PlaceAnswer) → FoundNamed a
+        → FoundNamed (cond closed (PlaceRefused Closed) (cond small (PlaceRefused Room) a))
     tested true small a h = λ e. absurd (omega (arith, e))
     tested false true a h = λ e. absurd (omega (arith, e))
     tested false false a h = h

@@ -122,8 +122,6 @@ RefusedState = (st : Reader) (points : List Float) (bytes : ℕ) → let r = ste
     (((stepNumber (r .answer) ≡ 9) ⊎ ((stepNumber (r .answer) ≡ 10) ⊎ (stepNumber (r .answer) ≡ 11))) → OnlyEnded st (r .state))
     × (((stepNumber (r .answer) ≡ 8) ⊎ (stepNumber (r .answer) ≡ 12)) → r .state ≡ st)
 
--- ---- histories
-
 -- "With one encoder the second history stays as given", whatever the answer
 abbrev pub SecondHistoryKept : Type 0
 SecondHistoryKept = (st : Reader) (points : List Float) (bytes : ℕ) → planFor (settingsIn st) .encoders ≡ 1
@@ -150,4 +148,5 @@ abbrev pub PlaceTied : Type 0
 PlaceTied = (st : Reader) (points : List Float) (bytes : ℕ) → InReach st → settingsIn st .length ≤ bytes
     → let a = stepOf st points bytes .answer in let b = placeOf st points in
     ((stepNumber a ≡ 9) ↔ (placeNumber b ≡ 9))
-    × (placeNumber b ≡ 9 → (b ≡ Found (placeStream b) (placeSubcarrier b)) × ((stepStream a ≡ placeStream b) × (stepSubcarrier a ≡ placeSubcarrier b)))
+    × (placeNumber b ≡ 9
+    → (b ≡ Found (placeStream b) (placeSubcarrier b)) × ((stepStream a ≡ placeStream b) × (stepSubcarrier a ≡ placeSubcarrier b)))

@@ -65,7 +65,8 @@ returns c =
     let a = entry k in
     heard-accepted (a .args .s) (a .pre .held .right) (a .args .reader) (bitNumbered (now (a .args .inputs))) (a .args .histories) (k .descramble .last .0) (k .before .before .scrambler-for .result) (k .before .before .scrambler-for .ensures .0)
     (plain-at (a .args .s) (p .plan-of .result) (p .plan-of .ensures) _ _ _ _ (k .descramble .ensures))
-    _ _ _ _ _ (sym (i .before .is-right .ensures) ∙ i .if1 .taken) (c .before .accepted-as .ensures) (c .moved .ensures) (b .put-bytes .ensures .1) (b .put-bytes .ensures .0)
+    _ _ _ _ _ (sym (i .before .is-right .ensures) ∙ i .if1 .taken) (c .before .accepted-as .ensures) (c .moved .ensures)
+    (b .put-bytes .ensures .1) (b .put-bytes .ensures .0)
 
 ended-requires : tie.Need-ended-requires
 ended-requires c κs = search needs

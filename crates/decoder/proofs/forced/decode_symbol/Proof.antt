@@ -3,7 +3,6 @@ use mathlib.Core.Path.{refl}
 use Prim.Native.Nat.{_-_, _≤_}
 use native.Mathlib.Omega.{arith}
 use borrow.Author.Needs.{needs}
-use denote.Ref.{now}
 use Rattle.chain.proofs.Counts.{encoders-some, encoders-most}
 use Rattle.deinterleaver.specs.Deinterleaved.{codedOf}
 use Rattle.decoder.specs.Decoded.{historiesIn}

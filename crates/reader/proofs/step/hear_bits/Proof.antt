@@ -44,7 +44,9 @@ returns c =
     let a = entry k in
     bits-heard (a .args .s) (a .pre .right) (a .args .reader) (labelBitIn (planFor (a .args .s)) (now (a .args .bits))) (k .symbol-inputs .last .0)
     (inputs-at (a .args .s) (a .args .reader) (p .plan-of .result) (p .plan-of .ensures) (now (a .args .bits)) _ _ (k .symbol-inputs .ensures .0))
-    _ _ _ _ (sym (sound-by (a .args .s) (a .args .reader) (p .plan-of .result) (p .plan-of .ensures) (now (a .args .bits)) (k .symbol-inputs .result .sound) (k .symbol-inputs .ensures .1 .0)) ∙ i .if1 .taken)
+    _ _ _ _
+    (sym (sound-by (a .args .s) (a .args .reader) (p .plan-of .result) (p .plan-of .ensures) (now (a .args .bits))
+    (k .symbol-inputs .result .sound) (k .symbol-inputs .ensures .1 .0)) ∙ i .if1 .taken)
     (after-by (a .args .s) (a .args .reader) (p .plan-of .result) (p .plan-of .ensures) (now (a .args .bits)) (k .symbol-inputs .result .histories) (k .symbol-inputs .ensures .1 .1)) (c .before .before .hear-inputs .ensures)
 
 ended-requires : tie.Need-ended-requires

@@ -73,7 +73,8 @@ returns-2 c =
     let k = e .before .before .before in
     let p = k .before in
     let a = entry k in
-    points-heard (a .args .s) (a .pre .right) (a .args .reader) (now (a .args .points)) (k .symbol-bits .result) _ _ _ _ _ (e .enum-told .given .1)
+    points-heard (a .args .s) (a .pre .right) (a .args .reader) (now (a .args .points)) (k .symbol-bits .result) _ _ _ _ _
+    (e .enum-told .given .1)
     (search-by (a .args .s) (a .args .reader) (p .plan-of .result) (p .plan-of .ensures) (now (a .args .points)) _ (k .symbol-bits .ensures .0))
     (shown-by (a .args .s) (a .args .reader) (p .plan-of .result) (p .plan-of .ensures) (now (a .args .points)) _ _ _ (k .symbol-bits .ensures .1)) (c .before .before .hear-bits .ensures)
 

@@ -80,7 +80,8 @@ returns-4 c =
     let s = k .before .checked .given .0 .0 in
     let h = c .before .before .hear-points .ensures in
     step-as (a .args .reader) (now (a .args .points)) (now (a .args .payload)) (Accepted s) (settings k) _ _
-    (h .0 ∙ step-by s (a .args .reader) (now (a .args .points)) _ false false (going (f .before)) (room-by s (f .floats-of .result) (f .floats-of .ensures .0) _ _ false (c .before .before .before .before .if2 .left))) (h .1)
+    (h .0 ∙ step-by s (a .args .reader) (now (a .args .points)) _ false false (going (f .before))
+    (room-by s (f .floats-of .result) (f .floats-of .ensures .0) _ _ false (c .before .before .before .before .if2 .left))) (h .1)
 
 pub step-spec : {M : Type 1} → statement M
 step-spec =

@@ -11,10 +11,13 @@ use mathlib.Core.Bool.{true, false}
 use borrow.Author.Tests.{ltb-false}
 use lib.Dec.{ltb}
 use lib.ListN.{length}
-use Rattle.settings.specs.Settings.{checkOf}
+use Rattle.settings.specs.Settings.{checkOf, planFor}
+use Rattle.detector.specs.declared.search.Search.{Search}
+use Rattle.detector.specs.Detected.{searchOf}
 use Rattle.reader_state.specs.State.{openRaw, closedOf}
 use Rattle.settings.specs.declared.settings.Checked.the-variants.{Accepted}
 use Rattle.reader_place.specs.declared.place.PlaceAnswer.the-variants.{Found}
+use Rattle.reader_place.specs.Place.{foundAs, placeOf}
 use borrow.Author.Needs.{needs}
 use Rattle.reader_place.proofs.place.place.Statement.{statement}
 use Rattle.reader_place.proofs.place.place.Tie as tie
@@ -33,6 +36,30 @@ settings c = let k = c .before .before .before in sym (c .before .checked .given
 -- and the state is not closed
 going : (c : tie.Else1) → false ≡ closedOf (c .before .before .before .checked .given .0 .0) (entry (c .before .before) .args .reader)
 going c = sym (c .if1 .left) ∙ c .before .is-closed .ensures
+
+-- where the search is made, its answer is the definition's
+abbrev searchAt : tie.After-plan-of → Search
+searchAt p = let s = told p .before .checked .given .0 .0 in
+    searchOf (planFor s) (now (entry (told p) .args .points)) (s .format) (entry (told p) .args .reader .symbol)
+
+searched : (c : tie.After-symbol-bits) → c .symbol-bits .result ≡ searchAt (c .before)
+searched c =
+    let p = c .before in
+    let a = entry (told p) in
+    search-by (told p .before .checked .given .0 .0) (a .args .reader) (p .plan-of .result) (p .plan-of .ensures) (now (a .args .points)) _
+    (c .symbol-bits .ensures .0)
+
+-- and the place is the search's: the state is not closed, and its points are enough
+placed : (p : tie.After-plan-of) (found : Search) → found ≡ searchAt p
+    → foundAs found (told p .before .checked .given .0 .0) ≡ placeOf (entry (told p) .args .reader) (now (entry (told p) .args .points))
+placed p found e =
+    let k = told p in
+    let a = entry k in
+    let s = k .before .checked .given .0 .0 in
+    let f = p .before .before .before in
+    let room = sym (p .before .before .if2 .left) ∙ ap (ltb (length (now (a .args .points)))) (f .floats-of .ensures .0) in
+    place-as (a .args .reader) (now (a .args .points)) (Accepted s) (settings k) _
+    (place-by s (a .args .reader) (now (a .args .points)) false false (going (p .before .before .before .before)) room found e)
 
 raw-of-requires : tie.Need-raw-of-requires
 raw-of-requires c κs = search needs
@@ -74,7 +101,9 @@ slice-aggregate-symbol-bits : tie.Need-slice-aggregate-symbol-bits
 slice-aggregate-symbol-bits c = search needs
 
 plan-of-requires : tie.Need-plan-of-requires
-plan-of-requires c κs = let k = c .before .before .before .before .before in open-right (entry k .args .reader) (k .before .checked .given .0 .0) (settings k)
+plan-of-requires c κs =
+    let k = c .before .before .before .before .before in
+    open-right (entry k .args .reader) (k .before .checked .given .0 .0) (settings k)
 
 symbol-bits-requires : tie.Need-symbol-bits-requires
 symbol-bits-requires c κs =
@@ -92,42 +121,36 @@ enum-known-found c = search needs
 
 cast-t23 : tie.Need-cast-t23
 cast-t23 c =
-    let p = c .before .before .before .before .before in
-    let k = told p in
+    let b = c .before .before .before .before in
+    let k = told (b .before) in
     let a = entry k in
     let s = k .before .checked .given .0 .0 in
     omega (
       arith,
-      stream-few s (open-right (a .args .reader) s (settings k)) (now (a .args .points)) _ _ _ _ (c .before .found .given .1)
-          (search-by s (a .args .reader) (p .plan-of .result) (p .plan-of .ensures) (now (a .args .points)) _ (c .before .before .before .before .symbol-bits .ensures .0)),
+      stream-few s (open-right (a .args .reader) s (settings k)) (now (a .args .points)) _ _ _ _ (c .before .found .given .1) (searched b),
     )
 
 subcarrier-of-requires : tie.Need-subcarrier-of-requires
 subcarrier-of-requires c κs =
-    let p = c .before .before .before .before .before in
-    let k = told p in
+    let b = c .before .before .before .before in
+    let k = told (b .before) in
     let a = entry k in
-    let s = k .before .checked .given .0 .0 in
-    (open-right (a .args .reader) s (settings k) .width, place-few s (now (a .args .points)) _ _ _ _ (c .before .found .given .1) (search-by s (a .args .reader) (p .plan-of .result) (p .plan-of .ensures) (now (a .args .points)) _ (c .before .before .before .before .symbol-bits .ensures .0)))
+    let s = k .before .checked .given .0 .0 in (
+      open-right (a .args .reader) s (settings k) .width,
+      place-few s (now (a .args .points)) _ _ _ _ (c .before .found .given .1) (searched b),
+    )
 
 returns-4 : tie.Need-returns-4
 returns-4 c =
-    let p = c .before .before .before .before in
-    let k = told p in
-    let a = entry k in
-    let s = k .before .checked .given .0 .0 in
-    place-as (a .args .reader) (now (a .args .points)) _ (settings k) _ (place-by s (a .args .reader) (now (a .args .points)) false false (going (p .before .before .before .before)) (sym (p .before .before .if2 .left) ∙ ap (ltb (length (now (a .args .points)))) (p .before .before .before .floats-of .ensures .0)) _
-    (sym (c .enum-told2 .given .1) ∙ search-by s (a .args .reader) (p .plan-of .result) (p .plan-of .ensures) (now (a .args .points)) _ (c .before .before .before .symbol-bits .ensures .0)))
+    let b = c .before .before .before in
+    placed (b .before) _ (sym (c .enum-told2 .given .1) ∙ searched b)
 
 returns-5 : tie.Need-returns-5
 returns-5 c =
-    let p = c .before .before .before .before .before .before in
-    let k = told p in
-    let a = entry k in
-    let s = k .before .checked .given .0 .0 in
-    ap (Found (c .before .before .found .given .0 .0)) {x = toZ w32 (ofZ w32 (c .subcarrier-of .result))} (search needs ∙ c .subcarrier-of .ensures)
-    ∙ place-as (a .args .reader) (now (a .args .points)) (Accepted s) (settings k) _ (place-by s (a .args .reader) (now (a .args .points)) false false (going (p .before .before .before .before)) (sym (p .before .before .if2 .left) ∙ ap (ltb (length (now (a .args .points)))) (p .before .before .before .floats-of .ensures .0)) _
-    (sym (c .before .before .found .given .1) ∙ search-by s (a .args .reader) (p .plan-of .result) (p .plan-of .ensures) (now (a .args .points)) _ (c .before .before .before .before .before .symbol-bits .ensures .0)))
+    let b = c .before .before .before .before .before in
+    let f = c .before .before .found in
+    ap (Found (f .given .0 .0)) {x = toZ w32 (ofZ w32 (c .subcarrier-of .result))} (search needs ∙ c .subcarrier-of .ensures)
+    ∙ placed (b .before) _ (sym (f .given .1) ∙ searched b)
 
 pub place-spec : {M : Type 1} → statement M
 place-spec =

@@ -1,6 +1,6 @@
 -- `is_closed` makes the definition's tests one after the other.
 use mathlib.Core.Path.{_≡_, subst}
-use mathlib.Core.Bool.{true, false, _||_}
+use mathlib.Core.Bool.{Bool, true, false, _||_}
 use Prim.Native.Nat.{ℕ}
 use borrow.Author.Tests.{leb-false}
 use lib.Dec.{leb}
@@ -16,13 +16,14 @@ abbrev entry : tie.After-struct-known2 → tie.Start
 entry c = c .before .before .before
 
 -- the first test, with the count by its definition
-past : (c : tie.Then1) → let a = entry (c .before) in (a .args .reader .ended || leb (symbolsOf (a .args .s)) (a .args .reader .symbol)) ≡ true
-past c = let a = entry (c .before) in
-    subst (λ (k : ℕ). (a .args .reader .ended || leb k (a .args .reader .symbol)) ≡ true) (c .before .before .before .symbols-of .ensures) (c .if1 .taken)
+abbrev first : tie.After-struct-known2 → (count : ℕ) → Bool
+first c count = entry c .args .reader .ended || leb count (entry c .args .reader .symbol)
 
-going : (c : tie.Else1) → let a = entry (c .before) in (a .args .reader .ended || leb (symbolsOf (a .args .s)) (a .args .reader .symbol)) ≡ false
-going c = let a = entry (c .before) in
-    subst (λ (k : ℕ). (a .args .reader .ended || leb k (a .args .reader .symbol)) ≡ false) (c .before .before .before .symbols-of .ensures) (c .if1 .left)
+past : (c : tie.Then1) → first (c .before) (symbolsOf (entry (c .before) .args .s)) ≡ true
+past c = subst (λ (k : ℕ). first (c .before) k ≡ true) (c .before .before .before .symbols-of .ensures) (c .if1 .taken)
+
+going : (c : tie.Else1) → first (c .before) (symbolsOf (entry (c .before) .args .s)) ≡ false
+going c = subst (λ (k : ℕ). first (c .before) k ≡ false) (c .before .before .before .symbols-of .ensures) (c .if1 .left)
 
 symbols-of-requires : tie.Need-symbols-of-requires
 symbols-of-requires c κs = search needs
@@ -40,7 +41,8 @@ bad-part-requires : tie.Need-bad-part-requires
 bad-part-requires c κs =
     let e = c .before .before .before in
     let a = entry (e .before) in
-    (a .pre, symbol-few (a .args .s) (a .pre) _ (leb-false _ _ (or-false (a .args .reader .ended) (leb (symbolsOf (a .args .s)) (a .args .reader .symbol)) (going e) .1)))
+    let within = or-false (a .args .reader .ended) (leb (symbolsOf (a .args .s)) (a .args .reader .symbol)) (going e) .1 in
+    (a .pre, symbol-few (a .args .s) (a .pre) _ (leb-false _ _ within))
 
 returns-2 : tie.Need-returns-2
 returns-2 c =
