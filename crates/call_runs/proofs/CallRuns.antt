@@ -4,13 +4,12 @@ use mathlib.Core.Bool.{Bool, false, cond}
 use mathlib.Core.List.{List}
 use Prim.Native.Nat.{ℕ, zero, suc, _+_, _*_, _/_, _%_, _<_, _≤_}
 use native.Mathlib.Omega.{arith}
-use borrow.Author.Tests.{lt-leb}
-use lib.Dec.{leb}
+use borrow.Author.Tests.{lt-leb, ne-eqb}
+use lib.Dec.{eqb, leb}
 use lib.ListN.{length, getD}
 use lib.IntN.{pos}
 use lib.Ieee.{Float}
 use Rattle.laws.specs.Integers.{counted, minus}
-use Rattle.settings.specs.declared.settings.Refusal.the-variants.{Point}
 use Rattle.settings.specs.declared.settings.Checked.{Checked}
 use Rattle.settings.specs.declared.settings.Checked.the-variants.{Accepted, Refused}
 use Rattle.settings.specs.Settings.{numberOf, checkOf}
@@ -26,11 +25,8 @@ use Rattle.reader_runs.specs.Run.{stateBefore, answerTo, sliceAfter}
 use Rattle.reader_runs.proofs.Endings.{run-kept}
 use Rattle.demands.specs.Demand2.{lengths}
 use Rattle.demands.proofs.Demand2.{demand-2a, demand-2b}
-use Rattle.frame_steps.specs.declared.steps.FrameAnswer.{FrameAnswer}
-use Rattle.frame_steps.specs.declared.steps.FrameAnswer.the-variants.{Read, BadPoint, BadSymbol, Refused as FrameRefused}
-use Rattle.frame_steps.specs.WholeFrame.{readFrameOf}
+use Rattle.frame_steps.specs.WholeFrame.{readFrameOf, frameNumber, frameSeed}
 use Rattle.frame_steps.proofs.Exactly.{reads-frame}
-use Rattle.frame_reader.specs.Result.{frameResult}
 use Rattle.call_runs.specs.CallRun.{numberIn, seedIn, stateIn, handedTo, resultOf, sliceLeft}
 use Rattle.call_runs.specs.Statements.{BegunWith, CallsAreSteps, CallsExactly, FrameCallExactly}
 use Rattle.call_runs.proofs.Held.{Held, held-back, held-below, start-held, step-held, answer-below, seed-below}
@@ -144,23 +140,28 @@ calls-exactly o first S M m begun below room =
 
 -- ---- a whole frame by one call
 
-seed-told : (r : FrameAnswer) (k : ℕ) → frameResult r ≡ pos k → r ≡ Read k
-seed-told (Read seed) k e = ap Read (pos-told seed k e)
-seed-told (BadPoint n i z) k e = absurd (minus-not-pos (numberOf Point) k (omega arith) e)
-seed-told (BadSymbol n r) k e = absurd (minus-not-pos (numberOf r) k (number-range r .0) e)
-seed-told (FrameRefused r) k e = absurd (minus-not-pos (numberOf r) k (number-range r .0) e)
+-- a result that is not negative is number 0 with that seed
+seed-told : (number seed k : ℕ) → cond (eqb number 0) (pos seed) (minus number) ≡ pos k → (number ≡ 0) × (seed ≡ k)
+seed-told zero seed k e = (refl, pos-told seed k e)
+seed-told (suc n) seed k e = absurd (minus-not-pos (suc n) k (omega arith) (simp (ne-eqb (suc n) 0 (λ z. omega (arith, z))) at e))
+
+seed-shown : (number seed k : ℕ) → (number ≡ 0) × (seed ≡ k) → cond (eqb number 0) (pos seed) (minus number) ≡ pos k
+seed-shown zero seed k (z, e) = ap pos e
+seed-shown (suc n) seed k (z, e) = absurd (omega (arith, z))
 
 pub frame-call-exactly : FrameCallExactly
 frame-call-exactly o points payload =
     let frame = reads-frame o points payload in
-    let r = readFrameOf o points (length payload) in (
+    let r = readFrameOf o points (length payload) in
+    let told = seed-told (frameNumber r) (frameSeed r) in
+    let shown = seed-shown (frameNumber r) (frameSeed r) in (
       λ begun room.
           let both = frame .0 begun room in (
             (
-              λ (k, e). both .0 .0 (k, seed-told r k e),
-              λ given. let found = both .0 .1 given in (found .0, ap frameResult (found .1)),
+              λ (k, e). both .0 .0 (k, told k e),
+              λ given. let found = both .0 .1 given in (found .0, shown (found .0) (found .1)),
             ),
-            λ seed p is gives. let read = both .1 seed p is gives in (ap frameResult (read .0), read .1),
+            λ seed p is gives. let read = both .1 seed p is gives in (shown seed (read .0), read .1),
           ),
-      λ none. frame .1 (λ seed e. none seed (ap frameResult e)),
+      λ none. frame .1 (λ seed e. none seed (shown seed e)),
     )

@@ -1,12 +1,10 @@
 -- The reading of a whole frame as one number (docs/C-API.md): the seed, or the refusal's number negated.
+use mathlib.Core.Bool.{cond}
+use lib.Dec.{eqb}
 use lib.IntN.{ℤ, pos}
-use Rattle.settings.specs.declared.settings.Refusal.the-variants.{Point}
-use Rattle.conversions.specs.Results.{refusedResult}
+use Rattle.laws.specs.Integers.{minus}
 use Rattle.frame_steps.specs.declared.steps.FrameAnswer.{FrameAnswer}
-use Rattle.frame_steps.specs.declared.steps.FrameAnswer.the-variants.{Read, BadPoint, BadSymbol, Refused}
+use Rattle.frame_steps.specs.WholeFrame.{frameNumber, frameSeed}
 
 abbrev pub frameResult : FrameAnswer → ℤ
-frameResult (Read seed) = pos seed
-frameResult (BadPoint n i z) = refusedResult Point
-frameResult (BadSymbol n r) = refusedResult r
-frameResult (Refused r) = refusedResult r
+frameResult r = cond (eqb (frameNumber r) 0) (pos (frameSeed r)) (minus (frameNumber r))

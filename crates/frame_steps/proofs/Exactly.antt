@@ -2,10 +2,10 @@
 use mathlib.Core.Path.{_≡_, _∙_, refl, sym, ap, subst}
 use mathlib.Core.Bool.{Bool, true, false, cond}
 use mathlib.Core.List.{List, _++_}
-use mathlib.Core.Logic.{_⊎_}
+use mathlib.Core.Logic.{_⊎_, ⊎-elim}
 use Prim.Native.Nat.{ℕ, _+_, _-_, _*_, _<_}
 use native.Mathlib.Omega.{arith}
-use borrow.Author.Tests.{le-ltb, ltb-false}
+use borrow.Author.Tests.{le-ltb, ltb-false, eqb-true, eqb-false}
 use lib.Dec.{eqb, ltb}
 use lib.ListN.{length, take, drop}
 use lib.Seq.{take-length}
@@ -13,6 +13,7 @@ use lib.Ieee.{Float}
 use Rattle.laws.specs.Firsts.{firsts}
 use Rattle.laws.proofs.Firsts.{fill-list}
 use Rattle.laws.proofs.Reflect.{or-false}
+use Rattle.laws.proofs.Search.{AllBelow, FirstFailing, search-below}
 use Rattle.chain.specs.DataBits.{payloadBit}
 use Rattle.settings.specs.declared.settings.Refusal.{Refusal}
 use Rattle.settings.specs.declared.settings.Refusal.the-variants.{Room}
@@ -27,8 +28,8 @@ use Rattle.reader_state.specs.declared.state.OpenSettings.{OpenSettings}
 use Rattle.reader_state.specs.declared.state.StartAnswer.the-variants.{Refused as StartRefused}
 use Rattle.acceptance.specs.declared.accept.StepAnswer.{StepAnswer}
 use Rattle.acceptance.specs.declared.accept.StepAnswer.the-variants.{First, Next, BadPoint, Refused as StepRefused}
-use Rattle.reader_state.specs.State.{openRaw, startBy}
-use Rattle.reader.specs.Step.{stepNumber, stepSeed}
+use Rattle.reader_state.specs.State.{openRaw, startBy, startNumber}
+use Rattle.reader.specs.Step.{stepNumber, stepSeed, stepStream, stepSubcarrier}
 use Rattle.reader_runs.specs.Sent.{settingsFor}
 use Rattle.reader_runs.proofs.Steps.{sound}
 use Rattle.verdicts.proofs.StepCases.{accepted-zero}
@@ -39,10 +40,13 @@ use Rattle.demands.proofs.Reading.{begun-ready}
 use Rattle.demands.proofs.Demand2.{gives-all, demand-2a}
 use Rattle.frame_steps.specs.declared.steps.FrameAnswer.{FrameAnswer}
 use Rattle.frame_steps.specs.declared.steps.FrameAnswer.the-variants.{Read, BadPoint as BadPointAt, BadSymbol, Refused as FrameRefused}
-use Rattle.frame_steps.specs.WholeFrame.{symbolAt, answerAt, memoryAt, firstRefused, refusedAs, symbolsAnswer, frameNoRoom, readFrameBy, readFrameOf, frameIntoBy, readFrameInto, frameNumber}
-use Rattle.frame_steps.specs.Statements.{RoomForFrame, GivesFrame, ReadsFrame, FrameRefusals}
+use Rattle.frame_steps.specs.WholeFrame.{symbolAt, answerAt, memoryAt, refusedAs, symbolsAnswer, frameNoRoom, readFrameBy}
+use Rattle.frame_steps.specs.WholeFrame.{readFrameOf, frameIntoBy, readFrameInto}
+use Rattle.frame_steps.specs.WholeFrame.{frameNumber, frameSeed, frameSymbol, frameStream, frameSubcarrier}
+use Rattle.frame_steps.specs.Statements.{RoomForFrame, GivesFrame, ReadsFrame, SymbolRefused, FrameRefusals}
 use Rattle.frame_steps.proofs.AnswerLaws.{answer-at, answer-read, none-refused}
 use Rattle.frame_steps.proofs.FrameLaws.{rooms, payload-read}
+use Rattle.frame_steps.proofs.LoopLaws.{refusal-some}
 
 -- ---- with room the answer is the symbols'
 
@@ -113,38 +117,51 @@ unread (BadPointAt m i z) read payload n = refl
 unread (BadSymbol m r) read payload n = refl
 unread (FrameRefused r) read payload n = refl
 
+-- an answer of number 0 has read a seed
+pub read-shown : (r : FrameAnswer) (seed : ℕ) → frameNumber r ≡ 0 → frameSeed r ≡ seed → r ≡ Read seed
+read-shown (Read k) seed z e = ap Read e
+read-shown (BadPointAt n i y) seed z e = absurd (omega (arith, z))
+read-shown (BadSymbol n r) seed z e = absurd (refusal-some r z)
+read-shown (FrameRefused r) seed z e = absurd (refusal-some r z)
+
 -- demand 2 of the slices
 pub reads-frame : (o : OpenSettings) (points : List Float) (payload : List ℕ) → ReadsFrame o points (readFrameOf o points (length payload)) payload (readFrameInto o points payload)
 reads-frame o points payload = (
   λ begun room. (
     (
-      λ (seed, e). frame-given o points payload begun room seed e,
-      λ (seed, (p, (frame, gives))). (seed, frame-read o points payload begun room seed p frame gives),
+      λ (seed, e). frame-given o points payload begun room seed (read-shown r seed (e .0) (e .1)),
+      λ (seed, (p, (frame, gives))). (seed, shown seed (frame-read o points payload begun room seed p frame gives)),
     ),
-    λ seed p frame gives. (frame-read o points payload begun room seed p frame gives, frame-left o points payload begun room seed p frame gives),
+    λ seed p frame gives. (
+      shown seed (frame-read o points payload begun room seed p frame gives),
+      frame-left o points payload begun room seed p frame gives,
+    ),
   ),
-  unread (readFrameOf o points (length payload)) (memoryAt o points (symbolsOf (settingsFor o)) payload) payload,
+  λ none. unread r (memoryAt o points (symbolsOf (settingsFor o)) payload) payload (λ seed e. none seed (shown seed e)),
 )
+  where
+    r : FrameAnswer
+    r = readFrameOf o points (length payload)
+
+    shown : (seed : ℕ) → r ≡ Read seed → (frameNumber r ≡ 0) × (frameSeed r ≡ seed)
+    shown seed e = (ap frameNumber e, ap frameSeed e)
 
 -- ---- refusals
 
--- a symbol's refusal is no refusal of the frame's settings or room
-symbol-not-frame : (n : ℕ) (a : StepAnswer) (e : Refusal) → refusedAs n a ≡ FrameRefused e → ⊥
-symbol-not-frame n (First seed) e g = let z : _≡_ {A = ℕ} 0 1 = cc in omega arith
-symbol-not-frame n Next e g = let z : _≡_ {A = ℕ} 0 1 = cc in omega arith
-symbol-not-frame n (BadPoint i z) e g = let w : _≡_ {A = ℕ} 0 1 = cc in omega arith
-symbol-not-frame n (StepRefused r) e g = let z : _≡_ {A = ℕ} 0 1 = cc in omega arith
-
-read-not-refused : (t : Bool) (n seed : ℕ) (a : StepAnswer) (e : Refusal) → cond t (refusedAs n a) (Read seed) ≡ FrameRefused e → ⊥
-read-not-refused true n seed a e g = symbol-not-frame n a e g
-read-not-refused false n seed a e g = let z : _≡_ {A = ℕ} 0 1 = cc in omega arith
-
--- the number of a refused symbol
-symbol-number : (n : ℕ) (a : StepAnswer) → (stepNumber a ≡ 0 → ⊥) → frameNumber (refusedAs n a) ≡ stepNumber a
+-- the values of a refused symbol
+symbol-number : (n : ℕ) (a : StepAnswer) → (stepNumber a ≡ 0 → ⊥)
+    → (frameNumber (refusedAs n a) ≡ stepNumber a) × (frameSymbol (refusedAs n a) ≡ n)
 symbol-number n (First seed) r = absurd (r refl)
 symbol-number n Next r = absurd (r refl)
-symbol-number n (BadPoint i z) r = refl
-symbol-number n (StepRefused e) r = refl
+symbol-number n (BadPoint i z) r = (refl, refl)
+symbol-number n (StepRefused e) r = (refl, refl)
+
+symbol-place : (n : ℕ) (a : StepAnswer)
+    → (frameStream (refusedAs n a) ≡ stepStream a) × (frameSubcarrier (refusedAs n a) ≡ stepSubcarrier a)
+symbol-place n (First seed) = (refl, refl)
+symbol-place n Next = (refl, refl)
+symbol-place n (BadPoint i z) = (refl, refl)
+symbol-place n (StepRefused e) = (refl, refl)
 
 abbrev startRefusal : Checked → OpenSettings → (points : List Float) (bytes : ℕ) → Type 0
 startRefusal x o points bytes = (e : Refusal) → startBy x o .answer ≡ StartRefused e → readFrameBy x o points bytes ≡ FrameRefused e
@@ -158,32 +175,59 @@ room-or-not o floats bytes e =
     let f = or-false (ltb floats (symbolsOf (settingsFor o) * floatsOf (settingsFor o))) (ltb bytes (o .length)) e in
     (ltb-false floats (symbolsOf (settingsFor o) * floatsOf (settingsFor o)) (f .0), ltb-false bytes (o .length) (f .1))
 
+-- a begun reader with room for the whole frame
+module _ (o : OpenSettings) (points : List Float) (bytes : ℕ) (begun : Begun o) (room : RoomForFrame o (length points) bytes) where
+  symbols-answer : readFrameOf o points bytes ≡ symbolsAnswer o points bytes
+  symbols-answer = answer-by o begun points bytes false (room-false o (length points) bytes room)
+
+  named : (n : ℕ) → n < symbolsOf (settingsFor o) → ((k : ℕ) → k < n → stepNumber (answerAt o points bytes k) ≡ 0)
+      → (stepNumber (answerAt o points bytes n) ≡ 0 → ⊥) → SymbolRefused (readFrameOf o points bytes) n (answerAt o points bytes n)
+  named n l accepted refused =
+      let ready = begun-ready o begun in
+      let a = answerAt o points bytes n in
+      let is = symbols-answer ∙ answer-at o points bytes n l accepted refused in
+      let number = ap frameNumber is ∙ symbol-number n a refused .0 in
+      record {
+        answered = is;
+        number = number;
+        nine-to-eleven = subst (λ (k : ℕ). (k ≡ 9) ⊎ ((k ≡ 10) ⊎ (k ≡ 11))) (sym number)
+            (run-refused o ready (symbolAt (settingsFor o) points) (λ k. bytes) n l
+            (rooms o ready points (room .0) bytes (room .1) (n + 1) (omega (arith, l))) accepted refused);
+        symbol = ap frameSymbol is ∙ symbol-number n a refused .1;
+        stream = ap frameStream is ∙ symbol-place n a .0;
+        subcarrier = ap frameSubcarrier is ∙ symbol-place n a .1;
+      }
+
+  -- its answer is no 8
+  not-eight : frameNumber (readFrameOf o points bytes) ≡ 8 → ⊥
+  not-eight e =
+      ⊎-elim
+      (λ (all : AllBelow accepts (symbolsOf (settingsFor o))).
+      let zero : frameNumber (readFrameOf o points bytes) ≡ 0
+      = ap frameNumber
+      (symbols-answer ∙ answer-read o points bytes (λ k l. eqb-true (stepNumber (answerAt o points bytes k)) 0 (all k l))) in
+      omega (arith, e))
+      (λ (w : FirstFailing accepts (symbolsOf (settingsFor o))).
+      ⊎-elim (λ z. omega (arith, e, z)) (⊎-elim (λ z. omega (arith, e, z)) (λ z. omega (arith, e, z)))
+      (named (w .at) (w .below) (λ k l. eqb-true (stepNumber (answerAt o points bytes k)) 0 (w .passed k l))
+      (eqb-false (stepNumber (answerAt o points bytes (w .at))) 0 (w .fails)) .nine-to-eleven))
+      (search-below accepts (symbolsOf (settingsFor o)))
+    where
+      accepts : ℕ → Bool
+      accepts k = eqb (stepNumber (answerAt o points bytes k)) 0
+
 pub frame-refusals : FrameRefusals
 frame-refusals o points bytes = (
-  start-refused (checkOf (openRaw o)) o points bytes,
+  λ e g. let is = start-refused (checkOf (openRaw o)) o points bytes e g in (is, ap frameNumber is ∙ sym (ap startNumber g)),
   λ begun. (
-    (
-      λ e room. read-not-refused (ltb (firstRefused o points bytes) (symbolsOf (settingsFor o))) (firstRefused o points bytes) (stepSeed (answerAt o points bytes 0))
-          (answerAt o points bytes (firstRefused o points bytes)) Room (sym (answer-by o begun points bytes false (room-false o (length points) bytes room)) ∙ e),
-      λ none. short begun (frameNoRoom (settingsFor o) (length points) bytes) refl none,
-    ),
-    named begun,
+    (λ e room. not-eight o points bytes begun room e, λ none. ap frameNumber (short begun none)),
+    (λ e. short begun (λ room. not-eight o points bytes begun room e), λ room. named o points bytes begun room),
   ),
 )
   where
-    short : Begun o → (t : Bool) → frameNoRoom (settingsFor o) (length points) bytes ≡ t → (RoomForFrame o (length points) bytes → ⊥) → readFrameOf o points bytes ≡ FrameRefused Room
-    short begun true e none = answer-by o begun points bytes true e
-    short begun false e none = absurd (none (room-or-not o (length points) bytes e))
-
-    named : Begun o → RoomForFrame o (length points) bytes → (n : ℕ) → n < symbolsOf (settingsFor o)
-        → ((k : ℕ) → k < n → stepNumber (answerAt o points bytes k) ≡ 0) → (stepNumber (answerAt o points bytes n) ≡ 0 → ⊥)
-        → (readFrameOf o points bytes ≡ refusedAs n (answerAt o points bytes n))
-        × ((frameNumber (readFrameOf o points bytes) ≡ 9) ⊎ ((frameNumber (readFrameOf o points bytes) ≡ 10) ⊎ (frameNumber (readFrameOf o points bytes) ≡ 11)))
-    named begun room n l accepted refused =
-        let ready = begun-ready o begun in
-        let is = answer-by o begun points bytes false (room-false o (length points) bytes room) ∙ answer-at o points bytes n l accepted refused in
-        let number = ap frameNumber is ∙ symbol-number n (answerAt o points bytes n) refused in (
-          is,
-          subst (λ (k : ℕ). (k ≡ 9) ⊎ ((k ≡ 10) ⊎ (k ≡ 11))) (sym number)
-              (run-refused o ready (symbolAt (settingsFor o) points) (λ k. bytes) n l (rooms o ready points (room .0) bytes (room .1) (n + 1) (omega (arith, l))) accepted refused),
-        )
+    short : Begun o → (RoomForFrame o (length points) bytes → ⊥) → readFrameOf o points bytes ≡ FrameRefused Room
+    short begun none = by-room (frameNoRoom (settingsFor o) (length points) bytes) refl
+      where
+        by-room : (t : Bool) → frameNoRoom (settingsFor o) (length points) bytes ≡ t → readFrameOf o points bytes ≡ FrameRefused Room
+        by-room true e = answer-by o begun points bytes true e
+        by-room false e = absurd (none (room-or-not o (length points) bytes e))

@@ -11,12 +11,15 @@ use Rattle.symbols.specs.Symbols.{symbolsOf}
 use Rattle.frame.specs.Points.{floatsOf}
 use Rattle.reader_state.specs.declared.state.OpenSettings.{OpenSettings}
 use Rattle.reader_state.specs.declared.state.StartAnswer.the-variants.{Refused as StartRefused}
-use Rattle.reader_state.specs.State.{startOf}
+use Rattle.acceptance.specs.declared.accept.StepAnswer.{StepAnswer}
+use Rattle.reader_state.specs.State.{startOf, startNumber}
+use Rattle.reader.specs.Step.{stepNumber, stepStream, stepSubcarrier}
 use Rattle.reader_runs.specs.Sent.{settingsFor}
 use Rattle.demands.specs.Demand2.{Begun, IsFrame, GivesSymbol, Accepts}
 use Rattle.frame_steps.specs.declared.steps.FrameAnswer.{FrameAnswer}
-use Rattle.frame_steps.specs.declared.steps.FrameAnswer.the-variants.{Read, Refused as FrameRefused}
-use Rattle.frame_steps.specs.WholeFrame.{symbolAt, answerAt, refusedAs, readFrameOf, frameNumber}
+use Rattle.frame_steps.specs.declared.steps.FrameAnswer.the-variants.{Refused as FrameRefused}
+use Rattle.frame_steps.specs.WholeFrame.{symbolAt, answerAt, refusedAs, readFrameOf}
+use Rattle.frame_steps.specs.WholeFrame.{frameNumber, frameSeed, frameSymbol, frameStream, frameSubcarrier}
 
 -- room for every symbol's points, and for the payload
 abbrev pub RoomForFrame : (o : OpenSettings) (floats bytes : ℕ) → Type 0
@@ -35,16 +38,26 @@ ReadsShowing Shows o points payload payload′ =
     × ((seed : ℕ) (p : List ℕ) → IsFrame o seed p → GivesFrame o seed p points → Shows seed × (payload′ ≡ p ++ drop (o .length) payload)))
     × (((seed : ℕ) → Shows seed → ⊥) → payload′ ≡ payload)
 
--- the library's answer shows it as `Read seed`
+-- the library's answer shows it with number 0
 abbrev pub ReadsFrame : (o : OpenSettings) (points : List Float) (r : FrameAnswer) (payload payload′ : List ℕ) → Type 0
-ReadsFrame o points r payload payload′ = ReadsShowing (λ seed. r ≡ Read seed) o points payload payload′
+ReadsFrame o points r payload payload′ = ReadsShowing (λ seed. (frameNumber r ≡ 0) × (frameSeed r ≡ seed)) o points payload payload′
+
+-- the answer of a symbol n that is refused, as the frame's: its number, which is 9, 10 or 11, with the symbol's, and the place of 9
+pub record SymbolRefused (r : FrameAnswer) (n : ℕ) (a : StepAnswer) : Type 0 where
+  pub answered : r ≡ refusedAs n a
+  pub number : frameNumber r ≡ stepNumber a
+  pub nine-to-eleven : (frameNumber r ≡ 9) ⊎ ((frameNumber r ≡ 10) ⊎ (frameNumber r ≡ 11))
+  pub symbol : frameSymbol r ≡ n
+  pub stream : frameStream r ≡ stepStream a
+  pub subcarrier : frameSubcarrier r ≡ stepSubcarrier a
 
 -- the settings' refusals, then 8, then 9, 10 or 11 of the first symbol that is refused, with its number
 abbrev pub FrameRefusals : Type 0
 FrameRefusals = (o : OpenSettings) (points : List Float) (bytes : ℕ) → let r = readFrameOf o points bytes in
-    ((e : Refusal) → startOf o .answer ≡ StartRefused e → r ≡ FrameRefused e)
+    ((e : Refusal) → startOf o .answer ≡ StartRefused e → (r ≡ FrameRefused e) × (frameNumber r ≡ startNumber (startOf o .answer)))
     × (Begun o
-    → ((r ≡ FrameRefused Room) ↔ (RoomForFrame o (length points) bytes → ⊥))
+    → ((frameNumber r ≡ 8) ↔ (RoomForFrame o (length points) bytes → ⊥))
+    × ((frameNumber r ≡ 8 → r ≡ FrameRefused Room)
     × (RoomForFrame o (length points) bytes → (n : ℕ) → n < symbolsOf (settingsFor o)
     → ((k : ℕ) → k < n → Accepts (answerAt o points bytes k)) → (Accepts (answerAt o points bytes n) → ⊥)
-    → (r ≡ refusedAs n (answerAt o points bytes n)) × ((frameNumber r ≡ 9) ⊎ ((frameNumber r ≡ 10) ⊎ (frameNumber r ≡ 11)))))
+    → SymbolRefused r n (answerAt o points bytes n))))

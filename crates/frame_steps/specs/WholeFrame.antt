@@ -5,6 +5,7 @@ use mathlib.Core.List.{List}
 use Prim.Native.Nat.{ℕ, _*_}
 use lib.Dec.{eqb, ltb}
 use lib.ListN.{length, drop}
+use lib.IntN.{ℤ, pos}
 use lib.Ieee.{Float}
 use Rattle.laws.specs.Least.{firstFrom}
 use Rattle.settings.specs.declared.settings.Refusal.the-variants.{Room}
@@ -75,9 +76,33 @@ abbrev pub readFrameInto : OpenSettings → (points : List Float) (payload : Lis
 readFrameInto o points payload =
     frameIntoBy (readFrameOf o points (length payload)) (memoryAt o points (symbolsOf (settingsFor o)) payload) payload
 
--- document 01's number of each case, 0 where the frame is read
+-- document 01's number of each case, 0 where the frame is read; the seed of each, and the symbol and the place that it names
 abbrev pub frameNumber : FrameAnswer → ℕ
 frameNumber (Read seed) = 0
 frameNumber (BadPointAt n i z) = 9
 frameNumber (BadSymbol n r) = numberOf r
 frameNumber (FrameRefused r) = numberOf r
+
+abbrev pub frameSeed : FrameAnswer → ℕ
+frameSeed (Read seed) = seed
+frameSeed (BadPointAt n i z) = 0
+frameSeed (BadSymbol n r) = 0
+frameSeed (FrameRefused r) = 0
+
+abbrev pub frameSymbol : FrameAnswer → ℕ
+frameSymbol (Read seed) = 0
+frameSymbol (BadPointAt n i z) = n
+frameSymbol (BadSymbol n r) = n
+frameSymbol (FrameRefused r) = 0
+
+abbrev pub frameStream : FrameAnswer → ℕ
+frameStream (Read seed) = 0
+frameStream (BadPointAt n i z) = i
+frameStream (BadSymbol n r) = 0
+frameStream (FrameRefused r) = 0
+
+abbrev pub frameSubcarrier : FrameAnswer → ℤ
+frameSubcarrier (Read seed) = pos 0
+frameSubcarrier (BadPointAt n i z) = z
+frameSubcarrier (BadSymbol n r) = pos 0
+frameSubcarrier (FrameRefused r) = pos 0

@@ -53,8 +53,8 @@ found-right s r points n (At i f) g =
     inside-wide (s .width) (r .width) (subcarrierAt (s .width) f) (place-used-for (s .width) (r .width) f (place-few s points n i f (At i f) refl g) .inside)
 
 room-right : (closed small : Bool) (a : PlaceAnswer) → PlaceRight a → PlaceRight (cond closed (PlaceRefused Closed) (cond small (PlaceRefused Room) a))
-room-right true small a h = tt
-room-right false true a h = tt
+room-right true small a h = λ e. omega (arith, e)
+room-right false true a h = λ e. omega (arith, e)
 room-right false false a h = h
 
 pub place-right : (st : Reader) (points : List Float) → PlaceRight (placeOf st points)
@@ -64,7 +64,7 @@ place-right st points = go (checkOf (openRaw (st .settings))) refl
     go (Accepted s) e =
         room-right (closedOf s st) (ltb (length points) (floatsOf s)) _
         (found-right s (right (openRaw (st .settings)) s e) points (st .symbol) (searchOf (planFor s) points (s .format) (st .symbol)) refl)
-    go (Refused r) e = tt
+    go (Refused r) e = λ n. omega (arith, n)
 
 -- ---- the calls by their tests
 

@@ -1,4 +1,5 @@
 -- The reader's settings, states and answers as the numbers of the C calls (docs/C-API.md).
+use mathlib.Core.Path.{_≡_}
 use mathlib.Core.Bool.{cond}
 use mathlib.Core.List.{List, [], _∷_}
 use Prim.Native.Nat.{ℕ, _+_, _*_, _/_, _%_}
@@ -6,7 +7,9 @@ use lib.Dec.{eqb, leb}
 use lib.ListN.{length, getD}
 use lib.IntN.{ℤ, pos, _+ℤ_}
 use lib.Ieee.{Float}
+use Rattle.laws.specs.Integers.{minus}
 use Rattle.settings.specs.declared.settings.Refusal.the-variants.{Closed}
+use Rattle.settings.specs.Settings.{numberOf}
 use Rattle.subcarriers.specs.Subcarriers.{Inside}
 use Rattle.sig_words.specs.Words.{oneIf}
 use Rattle.reader_state.specs.declared.state.OpenSettings.{OpenSettings}
@@ -18,7 +21,7 @@ use Rattle.acceptance.specs.declared.accept.Stepped.{Stepped}
 use Rattle.reader_place.specs.declared.place.PlaceAnswer.{PlaceAnswer}
 use Rattle.reader_place.specs.declared.place.PlaceAnswer.the-variants.{Passed, Found, Refused as PlaceRefused}
 use Rattle.reader.specs.Step.{stepOf, stepInto, stepNumber, stepSeed}
-use Rattle.reader_place.specs.Place.{placeOf}
+use Rattle.reader_place.specs.Place.{placeOf, placeNumber, placeStream, placeSubcarrier}
 use Rattle.conversions.specs.Results.{flagOn, refusedResult}
 
 -- settings without a seed: a flag is off at 0 and on at any other number
@@ -73,15 +76,15 @@ stepResultInto o state points payload = cond (leb 562949953421312 state) payload
 
 -- the place: stream * 256 + (subcarrier + 128), 65,535 where every point passes, or the refusal's number negated
 abbrev pub placedResult : PlaceAnswer → ℤ
-placedResult Passed = pos 65535
-placedResult (Found i z) = pos (256 * i) +ℤ (z +ℤ pos 128)
-placedResult (PlaceRefused r) = refusedResult r
+placedResult a =
+    cond (eqb (placeNumber a) 0) (pos 65535)
+    (cond (eqb (placeNumber a) 9) (pos (256 * placeStream a) +ℤ (placeSubcarrier a +ℤ pos 128)) (minus (placeNumber a)))
 
 abbrev pub placeResult : OpenSettings → (state : ℕ) → List Float → ℤ
 placeResult o state points = cond (leb 562949953421312 state) (refusedResult Closed) (placedResult (placeOf (readerOf o state) points))
 
--- the place of an answer is a subcarrier of the wider channel
+-- the place of an answer is a subcarrier of the wider channel, and what is refused has a number other than a place's
 abbrev pub PlaceRight : PlaceAnswer → Type 0
 PlaceRight Passed = Unit {0}
 PlaceRight (Found i z) = Inside 40 z
-PlaceRight (PlaceRefused r) = Unit {0}
+PlaceRight (PlaceRefused r) = numberOf r ≡ 9 → ⊥

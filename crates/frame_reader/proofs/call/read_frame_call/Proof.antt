@@ -1,12 +1,22 @@
 -- `read_frame_call`: a number for each answer.
-use mathlib.Core.Path.{sym, ap, _∙_}
+use mathlib.Core.Path.{_≡_, sym, ap, _∙_}
 use native.Mathlib.Omega.{arith}
 use lib.IntN.{pos}
+use borrow.Author.Tests.{ne-eqb}
+use Rattle.settings.specs.declared.settings.Refusal.{Refusal}
+use Rattle.settings.specs.Settings.{numberOf}
+use Rattle.conversions.specs.Results.{refusedResult}
 use Rattle.conversions.proofs.Minus.{pos-is}
+use Rattle.frame_steps.specs.declared.steps.FrameAnswer.the-variants.{Refused as FrameRefused}
+use Rattle.frame_steps.proofs.LoopLaws.{refusal-some}
 use Rattle.frame_reader.specs.Result.{frameResult}
 use borrow.Author.Needs.{needs}
 use Rattle.frame_reader.proofs.call.read_frame_call.Statement.{statement}
 use Rattle.frame_reader.proofs.call.read_frame_call.Tie as tie
+
+-- a refusal is its number negated
+refused-as : (r : Refusal) → refusedResult r ≡ frameResult (FrameRefused r)
+refused-as r = simp (ne-eqb (numberOf r) 0 (refusal-some r))
 
 read-frame-requires : tie.Need-read-frame-requires
 read-frame-requires c κs = search needs
@@ -66,7 +76,8 @@ returns-3 : tie.Need-returns-3
 returns-3 c =
     let g = c .before .before in
     let k = g .before .before .before .before in
-    (search needs ∙ c .refused2 .ensures ∙ ap frameResult (sym (g .r .given .1) ∙ k .read-frame .ensures .0), k .read-frame .ensures .1 .0)
+    let is = sym (g .r .given .1) ∙ k .read-frame .ensures .0 in
+    (search needs ∙ c .refused2 .ensures ∙ refused-as (g .r .given .0 .1 .0) ∙ ap frameResult is, k .read-frame .ensures .1 .0)
 
 same-length-4 : tie.Need-same-length-4
 same-length-4 c = search needs
@@ -75,7 +86,8 @@ returns-4 : tie.Need-returns-4
 returns-4 c =
     let g = c .before .before in
     let k = g .before .before .before .before in
-    (search needs ∙ c .refused3 .ensures ∙ ap frameResult (sym (g .r2 .given .1) ∙ k .read-frame .ensures .0), k .read-frame .ensures .1 .0)
+    let is = sym (g .r2 .given .1) ∙ k .read-frame .ensures .0 in
+    (search needs ∙ c .refused3 .ensures ∙ refused-as (g .r2 .given .0 .0) ∙ ap frameResult is, k .read-frame .ensures .1 .0)
 
 pub read-frame-call-spec : {M : Type 1} → statement M
 read-frame-call-spec =
