@@ -56,13 +56,13 @@ module _ (s : Settings) (reader : Reader) (points : List Float) (payload : List 
   same-length : o .length ≡ s .length
   same-length = ap (λ (t : Settings). t .length) meant
 
-  -- the bytes apart hold the payload
-  pub copy-room : (bytes bytes′ : ℕ) → 65535 ≡ bytes → bytes′ ≡ bytes → s .length ≤ bytes′
-  copy-room bytes bytes′ e g = omega (arith, asked-right .length-most)
+  -- 65,535 bytes hold the payload
+  pub size-holds : (bytes : ℕ) → 65535 ≡ bytes → s .length ≤ bytes
+  size-holds bytes e = omega (arith, asked-right .length-most)
 
-  module _ (apart : List ℕ) (size : 65535 ≡ length apart) where
+  module _ (apart : List ℕ) (holds : s .length ≤ length apart) where
     fits : o .length ≤ length apart
-    fits = omega (arith, same-length, asked-right .length-most)
+    fits = omega (arith, same-length)
 
     pub symbols-asked : (count floats : ℕ) → count ≡ symbolsOf s → floats ≡ floatsOf s → SymbolsAsked reader count floats points apart
     symbols-asked count floats c f = record {
