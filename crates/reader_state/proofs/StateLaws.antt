@@ -21,7 +21,7 @@ use Rattle.settings.proofs.SettingsLaws.{right, plan-fits}
 use Rattle.symbols.proofs.CountLaws.{symbols-few}
 use Rattle.assembler.specs.Assembled.{payloadBefore}
 use Rattle.reader_state.specs.declared.state.Reader.{Reader}
-use Rattle.reader_state.specs.State.{InRange, openRaw, historyOf, firstBit, badHistories, badScrambler, badPart, closedOf}
+use Rattle.reader_state.specs.State.{InRange, OnlyEnded, openRaw, historyOf, firstBit, badHistories, badScrambler, badPart, closedOf, endedOf}
 
 abbrev powerClaim : Claim
 powerClaim = upTo 8 λ r. getD (1 ∷ 2 ∷ 4 ∷ 8 ∷ 16 ∷ 32 ∷ 64 ∷ 128 ∷ []) r 0 is 2 ^ r
@@ -114,6 +114,10 @@ module _ (s : Settings) (st : Reader) where
         scrambler-ok (st .symbol) (st .scrambler) (r .scrambler-some) (r .scrambler-most),
         lt-leb (2 ^ (payloadBefore (s .length) (firstBit s (st .symbol)) % 8)) (st .part) (r .part-fits),
       )
+
+-- a state with its end marked differs in nothing else
+pub only-ended : (st : Reader) → OnlyEnded st (endedOf st)
+only-ended st = record { settings = refl; symbol = refl; histories = refl; scrambler = refl; part = refl; ended = refl }
 
 -- the numbers that the code computes of a symbol
 module _ (s : Settings) (p : Plan) (plan : p ≡ planFor s) where

@@ -90,6 +90,15 @@ endedOf st = record {
   part = st .part;
 }
 
+-- "the state given with only its end marked", field by field
+pub record OnlyEnded (st st′ : Reader) : Type 0 where
+  pub settings : st′ .settings ≡ st .settings
+  pub symbol : st′ .symbol ≡ st .symbol
+  pub histories : st′ .histories ≡ st .histories
+  pub scrambler : st′ .scrambler ≡ st .scrambler
+  pub part : st′ .part ≡ st .part
+  pub ended : st′ .ended ≡ true
+
 -- "A state in range has accepted settings, a symbol number below the count, histories below 64, from symbol 1 on a scrambler of 1 to 127, and a part of a
 -- byte as many bits long as the payload bits before that symbol leave modulo 8, its other bits zero"; and it is not ended
 pub record InRange (s : Settings) (st : Reader) : Type 0 where

@@ -30,7 +30,7 @@ use Rattle.frame.specs.Points.{floatsOf}
 use Rattle.detector.specs.declared.search.Search.{Search}
 use Rattle.detector.specs.declared.search.Search.the-variants.{AllGiven, At}
 use Rattle.detector.specs.Detected.{pointGiven, searchOf, PointByRules}
-use Rattle.reader_state.proofs.StateLaws.{not-closed}
+use Rattle.reader_state.proofs.StateLaws.{not-closed, only-ended}
 use Rattle.verdicts.specs.Searches.{AllPass, FirstFailing}
 use Rattle.verdicts.proofs.GivenLaws.{given-by-rules, search-cases, shown-bit}
 use Rattle.decoder.proofs.ExtLaws.{code-exactly}
@@ -43,13 +43,13 @@ use Rattle.acceptance.specs.declared.accept.StepAnswer.the-variants.{First, Nex
 use Rattle.acceptance.specs.declared.accept.Stepped.{Stepped}
 use Rattle.reader_place.specs.declared.place.PlaceAnswer.{PlaceAnswer}
 use Rattle.reader_place.specs.declared.place.PlaceAnswer.the-variants.{Found, Refused as PlaceRefused}
-use Rattle.reader_state.specs.State.{openRaw, startBy, startOf, startNumber, historyOf, firstBit, closedOf, endedOf}
+use Rattle.reader_state.specs.State.{OnlyEnded, openRaw, startBy, startOf, startNumber, historyOf, firstBit, closedOf, endedOf}
 use Rattle.acceptance.specs.Accepted.{answered, scramblerFor, plainOf, frameRight, stepIntoBy, acceptedWith}
 use Rattle.reader.specs.Step.{bySearch, noRoom, stepOf, writtenBy, stepNumber, stepStream, stepSubcarrier}
 use Rattle.reader_place.specs.Place.{foundAs, placeBy, placeOf, placeNumber, placeStream, placeSubcarrier}
 use Rattle.verdicts.specs.Statements.{settingsIn, InReach, ClosedRow, StepRoomRow, PointRow, shownIn, inputIn, CodeRow}
 use Rattle.verdicts.specs.Statements.{WrongBit, FrameRow, StepRefusals, FirstPlace, PlaceIsFirst, RefusedUnchanged}
-use Rattle.verdicts.specs.Statements.{OnlyEnded, RefusedState, StartRefusals, PlaceTied}
+use Rattle.verdicts.specs.Statements.{RefusedState, StartRefusals, PlaceTied}
 use Rattle.verdicts.proofs.StepCases.{heard, decoded, moved, step-open, reach, accepted-zero, step-by}
 
 -- the tests that a row does not apply
@@ -273,10 +273,7 @@ refused-step-state st points bytes =
     given-back a out = (λ e. let b = between (stepNumber a) e in absurd (out (b .0) (b .1)), λ e. refl)
 
     ended : (a : StepAnswer) → 8 < stepNumber a → stepNumber a < 12 → Beside st (answered a (endedOf st))
-    ended a low high = (
-      λ e. record { settings = refl; symbol = refl; histories = refl; scrambler = refl; part = refl; ended = refl },
-      λ e. absurd (outside (stepNumber a) e .1 low high),
-    )
+    ended a low high = (λ e. only-ended st, λ e. absurd (outside (stepNumber a) e .1 low high))
 
     taken : (a : StepAnswer) (m : Reader) → stepNumber a ≡ 0 → Beside st (answered a m)
     taken a m z = (λ e. absurd (omega (arith, z, between (stepNumber a) e .0)), λ e. absurd (omega (arith, z, outside (stepNumber a) e .0)))

@@ -1,6 +1,5 @@
 -- What is proved of the reader beside its contracts, in document 01's words. The terms are in proofs/.
 use mathlib.Core.Path.{_≡_}
-use mathlib.Core.Bool.{true}
 use mathlib.Core.List.{List}
 use mathlib.Core.Logic.{_↔_, _⊎_}
 use Prim.Native.Nat.{ℕ, _+_, _-_, _*_, _<_, _≤_}
@@ -22,7 +21,7 @@ use Rattle.reader_state.specs.declared.state.OpenSettings.{OpenSettings}
 use Rattle.reader_state.specs.declared.state.Reader.{Reader}
 use Rattle.acceptance.specs.declared.accept.StepAnswer.the-variants.{BadPoint}
 use Rattle.reader_place.specs.declared.place.PlaceAnswer.the-variants.{Found}
-use Rattle.reader_state.specs.State.{InRange, openRaw, startOf, startNumber, historyOf, firstBit}
+use Rattle.reader_state.specs.State.{InRange, OnlyEnded, openRaw, startOf, startNumber, historyOf, firstBit}
 use Rattle.acceptance.specs.Accepted.{scramblerFor, plainOf}
 use Rattle.reader.specs.Step.{heardInput, stepOf, stepInto, stepNumber, stepStream, stepSubcarrier}
 use Rattle.reader_place.specs.Place.{placeOf, placeNumber, placeStream, placeSubcarrier}
@@ -106,15 +105,6 @@ PlaceIsFirst = (st : Reader) (points : List Float) (bytes : ℕ) → let a = ste
 abbrev pub RefusedUnchanged : Type 0
 RefusedUnchanged = (st : Reader) (points : List Float) (payload : List ℕ) → (stepNumber (stepOf st points (length payload) .answer) ≡ 0 → ⊥)
     → stepInto st points payload ≡ payload
-
--- "the state given with only its end marked", field by field
-pub record OnlyEnded (st st′ : Reader) : Type 0 where
-  pub settings : st′ .settings ≡ st .settings
-  pub symbol : st′ .symbol ≡ st .symbol
-  pub histories : st′ .histories ≡ st .histories
-  pub scrambler : st′ .scrambler ≡ st .scrambler
-  pub part : st′ .part ≡ st .part
-  pub ended : st′ .ended ≡ true
 
 -- "Refusals 9, 10, 11 return the state given with only its end marked; 8 and 12 return the state given"
 abbrev pub RefusedState : Type 0
