@@ -1,7 +1,8 @@
 -- What the read gives is in range, whatever it was lent. Assumes nothing.
-use mathlib.Core.Path.{_≡_, subst}
+use mathlib.Core.Path.{_≡_, refl, subst}
 use mathlib.Core.Bool.{Bool, true, false, cond, not}
 use mathlib.Core.List.{List, [], _∷_}
+use mathlib.Core.Logic.{_⊎_, inl, inr}
 use Prim.Native.Nat.{ℕ, zero, suc, _+_, _*_, _^_, _<_}
 use native.Mathlib.Nat.{pow-suc}
 use native.Mathlib.Omega.{arith}
@@ -38,15 +39,33 @@ pub fields-in-fit : (l : List ℕ) → SigFits (fieldsIn (bitsIn l))
 unfolding fieldsIn
 fields-in-fit l = record { mcs = field-small l 0 7; length = field-small l 8 16 }
 
--- the fields that the read gives fit their places
-pub read-fields-fit : (l : List ℕ) (g : SigFields) → readOf l ≡ Fields g → SigFits g
-read-fields-fit l g = go (not (eqb (length l) 6)) (crcWrong (bitsIn l)) (formWrong (bitsIn l))
+-- the width is one of the two
+fields-in-width : (l : List ℕ) → (fieldsIn (bitsIn l) .width ≡ 20) ⊎ (fieldsIn (bitsIn l) .width ≡ 40)
+unfolding fieldsIn field
+fields-in-width l = go (eqb (field (bitsIn l) 7 1) 1)
+  where
+    go : (b : Bool) → let w : ℕ = cond b 40 20 in (w ≡ 20) ⊎ (w ≡ 40)
+    go true = inr refl
+    go false = inl refl
+
+-- the fields that the read gives are those in the bits
+read-fields : (l : List ℕ) (g : SigFields) → readOf l ≡ Fields g → fieldsIn (bitsIn l) ≡ g
+read-fields l g = go (not (eqb (length l) 6)) (crcWrong (bitsIn l)) (formWrong (bitsIn l))
   where
     no : (r : Refusal) → Refused r ≡ Fields g → ⊥
     no r e = let z : _≡_ {A = ℕ} 0 1 = cc in omega arith
 
-    go : (a b c : Bool) → cond a (Refused Source) (cond b (Refused SigCrc) (cond c (Refused SigForm) (Fields (fieldsIn (bitsIn l))))) ≡ Fields g → SigFits g
+    go : (a b c : Bool)
+        → cond a (Refused Source) (cond b (Refused SigCrc) (cond c (Refused SigForm) (Fields (fieldsIn (bitsIn l))))) ≡ Fields g
+        → fieldsIn (bitsIn l) ≡ g
     go true b c e = absurd (no Source e)
     go false true c e = absurd (no SigCrc e)
     go false false true e = absurd (no SigForm e)
-    go false false false e = let is : fieldsIn (bitsIn l) ≡ g = cc in subst SigFits is (fields-in-fit l)
+    go false false false e = cc
+
+-- and so they fit their places
+pub read-fields-fit : (l : List ℕ) (g : SigFields) → readOf l ≡ Fields g → SigFits g
+read-fields-fit l g e = subst SigFits (read-fields l g e) (fields-in-fit l)
+
+pub read-width : (l : List ℕ) (g : SigFields) → readOf l ≡ Fields g → (g .width ≡ 20) ⊎ (g .width ≡ 40)
+read-width l g e = subst (λ (h : SigFields). (h .width ≡ 20) ⊎ (h .width ≡ 40)) (read-fields l g e) (fields-in-width l)
