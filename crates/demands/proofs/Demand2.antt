@@ -53,26 +53,35 @@ gives-all o ready S m few seed p frame gives =
 
 -- ---- (a)
 
+-- accepted symbols are given by some payload and seed
+pub accepted-given : (o : OpenSettings) → checkOf (openRaw o) ≡ Accepted (settingsFor o) → (S : ℕ → List Float) (bytes : ℕ → ℕ) (m : ℕ)
+    → m ≤ symbolsOf (settingsFor o) → Rooms (settingsFor o) S bytes m → ((n : ℕ) → n < m → stepNumber (answerTo o S bytes n) ≡ 0)
+    → (seed : ℕ) × ((p : List ℕ) × (IsFrame o seed p × ((n : ℕ) → n < m → GivesSymbol o seed p n (S n))))
+accepted-given o ready S bytes m few rooms accepted =
+    let s = settingsFor o in
+    let f = run-gives o ready S bytes m few rooms accepted in
+    let long : length (payloadOf (f .v) (s .length)) ≡ o .length = length-firsts (byteOf (f .v)) (s .length) in
+    let some : 1 ≤ f .seed = f .seed-some in
+    let most : f .seed ≤ 127 = omega (arith, f .seed-small) in (
+      f .seed,
+      (
+        payloadOf (f .v) (s .length),
+        (
+          (omega (arith, some), (most, (long, λ i l. omega (arith, payload-small (f .v) (f .bits) (s .length) i l)))),
+          λ n l. sent-gives o ready (f .seed) some most (payloadOf (f .v) (s .length)) n (omega (arith, long)) (omega (arith, l, few)) (S n)
+              (sent-payload s (sound o ready) o S m f n l),
+        ),
+      ),
+    )
+
 pub demand-2a : Demand2a
 demand-2a o S M m begun below room =
     let ready = begun-ready o begun in
     let s = settingsFor o in
     let rooms : Rooms s S (lengths M) (m + 1) = λ n l. room n (omega (arith, l)) in (
       λ accepted.
-          let f = run-gives o ready S (lengths M) (m + 1) (omega (arith, below)) rooms (λ n l. accepted n (omega (arith, l))) in
-          let long : length (payloadOf (f .v) (s .length)) ≡ o .length = length-firsts (byteOf (f .v)) (s .length) in
-          let some : 1 ≤ f .seed = f .seed-some in
-          let most : f .seed ≤ 127 = omega (arith, f .seed-small) in (
-            f .seed,
-            (
-              payloadOf (f .v) (s .length),
-              (
-                (omega (arith, some), (most, (long, λ i l. omega (arith, payload-small (f .v) (f .bits) (s .length) i l)))),
-                λ n l. sent-gives o ready (f .seed) some most (payloadOf (f .v) (s .length)) n (omega (arith, long)) (omega (arith, l, below)) (S n)
-                    (sent-payload s (sound o ready) o S (m + 1) f n (omega (arith, l))),
-              ),
-            ),
-          ),
+          let g = accepted-given o ready S (lengths M) (m + 1) (omega (arith, below)) rooms (λ n l. accepted n (omega (arith, l))) in
+          (g .0, (g .1 .0, (g .1 .1 .0, λ n l. g .1 .1 .1 n (omega (arith, l))))),
       λ (seed, (p, (frame, gives))) n l.
           ap stepNumber (run-takes o ready S (lengths M) (m + 1) (omega (arith, below)) rooms
           (gives-all o ready S (m + 1) (omega (arith, below)) seed p frame (λ k b. gives k (omega (arith, b)))) n (omega (arith, l)))
@@ -156,7 +165,8 @@ demand-2c o S m begun below seed seed′ p q (s1, (m1, (l1, b1))) (s2, (m2, (l2,
 
 -- ---- (d)
 
-closed-from : (o : OpenSettings) (S : ℕ → List Float) (M : ℕ → List ℕ) (n : ℕ) → stateBefore o S (lengths M) n .ended ≡ true → ClosedFrom o S M n
+pub closed-from : (o : OpenSettings) (S : ℕ → List Float) (M : ℕ → List ℕ) (n : ℕ) → stateBefore o S (lengths M) n .ended ≡ true
+    → ClosedFrom o S M n
 closed-from o S M n ended k l =
     let here = stays-from o S (lengths M) n ended k l in
     let ended′ : stateBefore o S (lengths M) k .ended ≡ true = ap (λ (t : Reader). t .ended) here ∙ ended in (
@@ -164,7 +174,7 @@ closed-from o S M n ended k l =
       (stays-from o S (lengths M) n ended (k + 1) (omega (arith, l)), ended-slice (stateBefore o S (lengths M) k) ended′ (S k) (M k)),
     )
 
-next-state : (o : OpenSettings) (S : ℕ → List Float) (bytes : ℕ → ℕ) (n : ℕ)
+pub next-state : (o : OpenSettings) (S : ℕ → List Float) (bytes : ℕ → ℕ) (n : ℕ)
     → stateBefore o S bytes (n + 1) ≡ stepOf (stateBefore o S bytes n) (S n) (bytes n) .state
 unfolding stateBefore
 next-state o S bytes n = ap (stateBefore o S bytes) (add-one n)
@@ -174,17 +184,21 @@ last-ended : (o : OpenSettings) (s : Settings) (v : ℕ → ℕ) (seed : ℕ) �
 unfolding stateAfter
 last-ended o s v seed = eq-eqb (symbolsOf s) (symbolsOf s) refl
 
+pub ended-last : (o : OpenSettings) → checkOf (openRaw o) ≡ Accepted (settingsFor o) → (S : ℕ → List Float) (bytes : ℕ → ℕ)
+    → Rooms (settingsFor o) S bytes (symbolsOf (settingsFor o))
+    → ((n : ℕ) → n < symbolsOf (settingsFor o) → stepNumber (answerTo o S bytes n) ≡ 0)
+    → stateBefore o S bytes (symbolsOf (settingsFor o)) .ended ≡ true
+ended-last o ready S bytes room accepted =
+    let s = settingsFor o in
+    let f = run-gives o ready S bytes (symbolsOf s) (omega arith) room accepted in
+    ap (λ (t : Reader). t .ended) (run-state o ready S bytes (symbolsOf s) (omega arith) room f (symbolsOf s) (omega arith))
+    ∙ last-ended o s (f .v) (f .seed)
+
 pub demand-2d : Demand2d
 demand-2d o S M = (
   λ n refused. closed-from o S M (n + 1)
       (ap (λ (t : Reader). t .ended) (next-state o S (lengths M) n) ∙ ended-by (stateBefore o S (lengths M) n) (S n) (lengths M n) refused),
-  λ begun room accepted.
-      let ready = begun-ready o begun in
-      let s = settingsFor o in
-      let f = run-gives o ready S (lengths M) (symbolsOf s) (omega arith) room accepted in
-      closed-from o S M (symbolsOf s)
-      (ap (λ (t : Reader). t .ended) (run-state o ready S (lengths M) (symbolsOf s) (omega arith) room f (symbolsOf s) (omega arith))
-      ∙ last-ended o s (f .v) (f .seed)),
+  λ begun room accepted. closed-from o S M (symbolsOf (settingsFor o)) (ended-last o (begun-ready o begun) S (lengths M) room accepted),
 )
 
 -- ---- (e)

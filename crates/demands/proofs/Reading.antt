@@ -26,7 +26,7 @@ use Rattle.reader_state.specs.declared.state.StartAnswer.the-variants.{Ready, R
 use Rattle.reader_state.specs.State.{withSeed, openRaw, startBy}
 use Rattle.reader_runs.specs.Sent.{settingsFor, sentInput, FloatsSent}
 use Rattle.demands.specs.Demand2.{Begun, GivesSymbol}
-use Rattle.demands.proofs.Calls.{Given, level-at}
+use Rattle.demands.proofs.Calls.{Given, given, level-at}
 
 -- "begun by its start": the settings are accepted
 abbrev isReady : StartAnswer → ℕ
@@ -58,6 +58,20 @@ module _ (o : OpenSettings) (ready : checkOf (openRaw o) ≡ Accepted (settingsF
   pub one-size : floatsOf (settingsOf (withSeed o seed)) ≡ floatsOf (settingsFor o)
   unfolding planFor
   one-size = refl
+
+  -- a slice with room for a symbol
+  abbrev lent : List Float
+  lent = firsts (λ k. nan) (floatsOf (settingsFor o))
+
+  lent-room : floatsOf (settingsFor o) ≤ length lent
+  lent-room = omega (arith, length-firsts (λ (k : ℕ). nan) (floatsOf (settingsFor o)))
+
+  -- a symbol that is given is in the frame
+  pub gives-inside : (p : List ℕ) (n : ℕ) (points : List Float) → GivesSymbol o seed p n points → n < symbolsOf (settingsFor o)
+  gives-inside p n points gives =
+      let g = given (settingsOf (withSeed o seed)) (length p) n (length lent)
+      (ap (λ (x : Checked). pointsNumber (pointsOf x (length p) n (length lent))) (sym seeded) ∙ gives lent lent-room .0) in
+      omega (arith, g .in-frame, one-count)
 
   module _ (p : List ℕ) (n : ℕ) (whole : o .length ≤ length p) (inside : n < symbolsOf (settingsFor o)) where
     abbrev sentFloat : ℕ → Float
@@ -98,10 +112,7 @@ module _ (o : OpenSettings) (ready : checkOf (openRaw o) ≡ Accepted (settingsF
 
     module _ (points : List Float) where
       pub gives-sent : GivesSymbol o seed p n points → FloatsSent (settingsFor o) (payloadBit p) seed n points
-      gives-sent gives g h =
-          let out : List Float = firsts (λ k. nan) (floatsOf (settingsFor o)) in
-          let room : floatsOf (settingsFor o) ≤ length out = omega (arith, length-firsts (λ (k : ℕ). nan) (floatsOf (settingsFor o))) in
-          gives out room .1 g h ∙ ap (toBits binary32) (written-is out room g h)
+      gives-sent gives g h = gives lent lent-room .1 g h ∙ ap (toBits binary32) (written-is lent lent-room g h)
 
       pub sent-gives : FloatsSent (settingsFor o) (payloadBit p) seed n points → GivesSymbol o seed p n points
       sent-gives sent out room = (call-given out room, λ g h. sent g h ∙ sym (ap (toBits binary32) (written-is out room g h)))

@@ -62,6 +62,12 @@ abbrev pub CompleteWith : (o : OpenSettings) (n j : ℕ) → Type 0
 CompleteWith o n j =
     (j < o .length) × ((n * planFor (settingsFor o) .dbps < 16 + 8 * j + 8) × (16 + 8 * j + 8 ≤ (n + 1) * planFor (settingsFor o) .dbps))
 
+-- the step of symbol n leaves in its slice the bytes of p that are now complete, and all else as it was
+abbrev pub LeavesBytes : (o : OpenSettings) (p : List ℕ) (n : ℕ) (before after : List ℕ) → Type 0
+LeavesBytes o p n before after = (length after ≡ length before)
+    × (((j : ℕ) → CompleteWith o n j → getD after j 0 ≡ getD p j 0)
+    × ((j : ℕ) → (CompleteWith o n j → ⊥) → getD after j 0 ≡ getD before j 0))
+
 -- ---- (a) "accepts symbols exactly when some payload and seed give them": symbols 0 to m, for every m in the frame
 abbrev pub Demand2a : Type 0
 Demand2a = (o : OpenSettings) (S : ℕ → List Float) (M : ℕ → List ℕ) (m : ℕ) → Begun o → m < symbolsOf (settingsFor o) → ((n : ℕ) → n ≤ m → RoomAt o S M n)
@@ -75,9 +81,7 @@ Demand2b = (o : OpenSettings) (S : ℕ → List Float) (M : ℕ → List ℕ) (m
     → (seed : ℕ) (p : List ℕ) → IsFrame o seed p → ((n : ℕ) → n ≤ m → GivesSymbol o seed p n (S n))
     → (n : ℕ) → n ≤ m
     → (answerTo o S (lengths M) n ≡ cond (eqb n 0) (First seed) Next)
-    × ((length (sliceAfter o S (lengths M) n (M n)) ≡ length (M n))
-    × (((j : ℕ) → CompleteWith o n j → getD (sliceAfter o S (lengths M) n (M n)) j 0 ≡ getD p j 0)
-    × ((j : ℕ) → (CompleteWith o n j → ⊥) → getD (sliceAfter o S (lengths M) n (M n)) j 0 ≡ getD (M n) j 0)))
+    × LeavesBytes o p n (M n) (sliceAfter o S (lengths M) n (M n))
 
 -- ---- (c) "that payload and seed": there are no two. The seed and every byte complete by symbol m are told by symbols 0 to m, and the whole payload at the end
 abbrev pub Demand2c : Type 0
