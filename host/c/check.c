@@ -146,7 +146,8 @@ static void check_reader(void) {
     /* Refused steps, and what they give back. */
     expect_step(step(0, symbol[0], 683, read, 20), HT_ROOM, 0, 0, "one float too few to read");
     expect_step(step(0, symbol[0], 684, read, 19), HT_ROOM, 0, 0, "one byte too few for the payload");
-    expect_step(step(no_state, symbol[0], 684, read, 20), HT_CLOSED, 0, 0, "a state of 2^49");
+    expect_step(step(no_state, symbol[0], 684, read, 20), HT_CLOSED, 0, ended, "a state of 2^49");
+    expect_step(step(no_state + ended + 5, symbol[0], 684, read, 20), HT_CLOSED, 0, ended + 5, "a state of 2^49 and more");
     expect_step(step(ended, symbol[0], 684, read, 20), HT_CLOSED, 0, ended, "an ended state");
     expect_step(step(64 << 16, symbol[0], 684, read, 20), HT_CLOSED, 0, 64 << 16, "a history of 64");
     expect_step(step(0, symbol[1], 684, read, 20), HT_POINT, 0, ended, "symbol 1 before symbol 0");

@@ -102,7 +102,8 @@ int64_t ht_reader_start(uint32_t width, uint32_t mcs, uint32_t format, uint32_t 
  *     number + 2^5 * seed + 2^12 * state
  * The number is 0 (accepted) or the refusal's; the seed is that of an accepted symbol 0 and else 0; the state is the one
  * after the step. Refusals in order: 12 (also for refused settings and for a number of 2^49 or more), 8, 9, 10, 11. With
- * 9, 10 and 11 the state comes back with its end marked; with 8 and 12 as it was, modulo 2^49. */
+ * 9, 10 and 11 the state comes back with its end marked; with 8 and 12 as it was. Of a number of 2^49 or more, 12 gives
+ * back that number modulo 2^48 with its end marked, from which every further step is 12. */
 int64_t ht_reader_step(uint32_t width, uint32_t mcs, uint32_t format, uint32_t length,
                        uint32_t smoothing, uint32_t not_sounding, uint32_t aggregation, uint32_t short_guard,
                        uint64_t state, const float *points, size_t points_len, uint8_t *payload, size_t payload_len);

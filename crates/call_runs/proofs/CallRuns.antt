@@ -1,29 +1,30 @@
 -- The reader by its C calls: the numbers handed back are the states that were returned, so that demand 2 holds of the calls. Assumes nothing.
-use mathlib.Core.Path.{_≡_, _∙_, refl, sym, ap, ap₂}
+use mathlib.Core.Path.{_≡_, _∙_, refl, sym, ap, ap₂, subst}
 use mathlib.Core.Bool.{Bool, false, cond}
 use mathlib.Core.List.{List}
-use Prim.Native.Nat.{ℕ, zero, suc, _+_, _*_, _/_, _%_, _<_, _≤_}
+use Prim.Native.Nat.{ℕ, zero, suc, _+_, _*_, _<_}
+use native.Mathlib.Numerals.{add-one}
 use native.Mathlib.Omega.{arith}
 use borrow.Author.Tests.{lt-leb, ne-eqb}
 use lib.Dec.{eqb, leb}
-use lib.ListN.{length, getD}
+use lib.ListN.{length}
 use lib.IntN.{pos}
 use lib.Ieee.{Float}
-use Rattle.laws.specs.Integers.{counted, minus}
+use Rattle.laws.specs.Integers.{minus}
 use Rattle.settings.specs.declared.settings.Checked.{Checked}
 use Rattle.settings.specs.declared.settings.Checked.the-variants.{Accepted, Refused}
-use Rattle.settings.specs.Settings.{numberOf, checkOf}
-use Rattle.settings.proofs.SettingsLaws.{number-range}
+use Rattle.settings.specs.Settings.{checkOf}
 use Rattle.reader_state.specs.declared.state.OpenSettings.{OpenSettings}
 use Rattle.reader_state.specs.declared.state.Reader.{Reader}
 use Rattle.reader_state.specs.declared.state.StartAnswer.the-variants.{Ready}
 use Rattle.acceptance.specs.declared.accept.Stepped.{Stepped}
 use Rattle.reader_state.specs.State.{openRaw, startBy}
 use Rattle.reader.specs.Step.{stepOf, stepInto, stepNumber, stepSeed}
-use Rattle.reader_numbers.specs.Numbers.{stateNumber, readerOf, startResult, steppedNumber, stepResult, stepResultInto}
+use Rattle.conversions.proofs.Minus.{pos-told, minus-not-pos, refused-not-pos}
+use Rattle.reader_numbers.specs.Numbers.{stateNumber, readerOf, startResult, steppedNumber, closedNumber, stepResult, stepResultInto}
 use Rattle.reader_runs.specs.Run.{stateBefore, answerTo, sliceAfter}
 use Rattle.reader_runs.proofs.Endings.{run-kept}
-use Rattle.demands.specs.Demand2.{lengths}
+use Rattle.demands.specs.Demand2.{lengths, LeavesBytes}
 use Rattle.demands.proofs.Demand2.{demand-2a, demand-2b}
 use Rattle.frame_steps.specs.WholeFrame.{readFrameOf, frameNumber, frameSeed}
 use Rattle.frame_steps.proofs.Exactly.{reads-frame}
@@ -33,31 +34,19 @@ use Rattle.call_runs.proofs.Held.{Held, held-back, held-below, start-he
 
 -- ---- the start
 
-pos-told : (a b : ℕ) → pos a ≡ pos b → a ≡ b
-pos-told a b e = let d : 2 * a ≡ 2 * b = ap counted e in omega (arith, d)
-
-minus-not-pos : (n k : ℕ) → 1 ≤ n → minus n ≡ pos k → ⊥
-minus-not-pos zero k l e = omega arith
-minus-not-pos (suc n) k l e = let d : 2 * n + 1 ≡ 2 * k = ap counted e in omega (arith, d)
-
 -- a start that returned a number is begun, and the number is its state's
-begun-by : (x : Checked) (o : OpenSettings) (first : ℕ) → startResult (startBy x o) ≡ pos first
+pub begun-by : (x : Checked) (o : OpenSettings) (first : ℕ) → startResult (startBy x o) ≡ pos first
     → (startBy x o .answer ≡ Ready) × (first ≡ stateNumber (startBy x o .state))
 begun-by (Accepted s) o first e = (refl, sym (pos-told _ first e))
-begun-by (Refused r) o first e = absurd (minus-not-pos (numberOf r) first (number-range r .0) e)
+begun-by (Refused r) o first e = absurd (refused-not-pos r first e)
 
 -- ---- a step's result by its parts
 
-result-parts : (number seed state : ℕ) → number < 32 → seed < 128
-    → ((number + 32 * seed + 4096 * state) % 32 ≡ number)
-    × (((number + 32 * seed + 4096 * state) / 32 % 128 ≡ seed) × ((number + 32 * seed + 4096 * state) / 4096 ≡ state))
-result-parts number seed state l h = (omega arith, (omega arith, omega arith))
-
-stepped-parts : (r : Stepped) → stepSeed (r .answer) < 128
+pub stepped-parts : (r : Stepped) → stepSeed (r .answer) < 128
     → (numberIn (steppedNumber r) ≡ stepNumber (r .answer))
     × ((seedIn (steppedNumber r) ≡ stepSeed (r .answer)) × (stateIn (steppedNumber r) ≡ stateNumber (r .state)))
 unfolding steppedNumber
-stepped-parts r h = result-parts (stepNumber (r .answer)) (stepSeed (r .answer)) (stateNumber (r .state)) (answer-below (r .answer)) h
+stepped-parts r small = let five = answer-below (r .answer) in (omega arith, (omega arith, omega arith))
 
 -- a call with a state's number is the step from that state
 module _ (o : OpenSettings) (state : ℕ) (st : Reader) (held : Held st) (own : st .settings ≡ o) (is : state ≡ stateNumber st) (points : List Float) where
@@ -69,7 +58,7 @@ module _ (o : OpenSettings) (state : ℕ) (st : Reader) (held : Held st) (own : 
 
   call-is : (bytes : ℕ) → stepResult o state points bytes ≡ steppedNumber (stepOf st points bytes)
   call-is bytes =
-      ap (λ (b : Bool). cond b (12 + 4096 * (state % 562949953421312)) (steppedNumber (stepOf (readerOf o state) points bytes))) is-state
+      ap (λ (b : Bool). cond b (12 + 4096 * closedNumber state) (steppedNumber (stepOf (readerOf o state) points bytes))) is-state
       ∙ ap (λ (t : Reader). steppedNumber (stepOf t points bytes)) comes-back
 
   call-into : (slice : List ℕ) → stepResultInto o state points slice ≡ stepInto st points slice
@@ -84,9 +73,15 @@ unfolding stateBefore
 run-held o S bytes zero = start-held (checkOf (openRaw o)) o
 run-held o S bytes (suc n) = step-held (stateBefore o S bytes n) (run-held o S bytes n) (S n) (bytes n)
 
+-- the state in a result is handed to the next step
+handed-next : (o : OpenSettings) (first : ℕ) (S : ℕ → List Float) (bytes : ℕ → ℕ) (n : ℕ)
+    → handedTo o first S bytes (n + 1) ≡ stateIn (resultOf o first S bytes n)
+unfolding handedTo
+handed-next o first S bytes n = ap (handedTo o first S bytes) (add-one n)
+
 module _ (o : OpenSettings) (first : ℕ) (S : ℕ → List Float) (bytes : ℕ → ℕ) (begun : BegunWith o first) where
   -- the number handed to a step is that of the state that was returned
-  handed-is : (n : ℕ) → handedTo o first S bytes n ≡ stateNumber (stateBefore o S bytes n)
+  pub handed-is : (n : ℕ) → handedTo o first S bytes n ≡ stateNumber (stateBefore o S bytes n)
   unfolding handedTo stateBefore
   handed-is zero = begun-by (checkOf (openRaw o)) o first begun .1
   handed-is (suc n) =
@@ -96,23 +91,33 @@ module _ (o : OpenSettings) (first : ℕ) (S : ℕ → List Float) (bytes : ℕ 
   result-is : (n : ℕ) → resultOf o first S bytes n ≡ steppedNumber (stepOf (stateBefore o S bytes n) (S n) (bytes n))
   result-is n = call-is o (handedTo o first S bytes n) (stateBefore o S bytes n) (run-held o S bytes n) (run-kept o S bytes n) (handed-is n) (S n) (bytes n)
 
-  number-is : (n : ℕ) → numberIn (resultOf o first S bytes n) ≡ stepNumber (answerTo o S bytes n)
+  pub number-is : (n : ℕ) → numberIn (resultOf o first S bytes n) ≡ stepNumber (answerTo o S bytes n)
   number-is n =
       ap numberIn (result-is n)
       ∙ stepped-parts (stepOf (stateBefore o S bytes n) (S n) (bytes n)) (seed-below (stateBefore o S bytes n) (S n) (bytes n)) .0
 
-  seed-is : (n : ℕ) → seedIn (resultOf o first S bytes n) ≡ stepSeed (answerTo o S bytes n)
+  pub seed-is : (n : ℕ) → seedIn (resultOf o first S bytes n) ≡ stepSeed (answerTo o S bytes n)
   seed-is n =
       ap seedIn (result-is n)
       ∙ stepped-parts (stepOf (stateBefore o S bytes n) (S n) (bytes n)) (seed-below (stateBefore o S bytes n) (S n) (bytes n)) .1 .0
 
-  slice-is : (n : ℕ) (slice : List ℕ) → sliceLeft o first S bytes n slice ≡ sliceAfter o S bytes n slice
+  pub slice-is : (n : ℕ) (slice : List ℕ) → sliceLeft o first S bytes n slice ≡ sliceAfter o S bytes n slice
   slice-is n slice = call-into o (handedTo o first S bytes n) (stateBefore o S bytes n) (run-held o S bytes n) (run-kept o S bytes n) (handed-is n) (S n) slice
+
+  -- the state in a result is the next one
+  pub state-is : (n : ℕ) → stateIn (resultOf o first S bytes n) ≡ stateNumber (stateBefore o S bytes (n + 1))
+  state-is n = sym (handed-next o first S bytes n) ∙ handed-is (n + 1)
 
 pub calls-are-steps : CallsAreSteps
 calls-are-steps o first S bytes begun = (
   begun-by (checkOf (openRaw o)) o first begun .0,
-  λ n. (number-is o first S bytes begun n, (seed-is o first S bytes begun n, slice-is o first S bytes begun n)),
+  λ n. (
+    number-is o first S bytes begun n,
+    (
+      seed-is o first S bytes begun n,
+      (slice-is o first S bytes begun n, (state-is o first S bytes begun n, handed-next o first S bytes n)),
+    ),
+  ),
 )
 
 pub calls-exactly : CallsExactly
@@ -126,15 +131,7 @@ calls-exactly o first S M m begun below room =
       λ seed p frame gives.
           let returned = demand-2b o S M m ready below room seed p frame gives in (
             seed-is o first S (lengths M) begun 0 ∙ ap stepSeed (returned 0 (omega arith) .0),
-            λ n l.
-                let left = returned n l .1 in
-                let same = slice-is o first S (lengths M) begun n (M n) in (
-                  ap length same ∙ left .0,
-                  (
-                    λ j complete. ap (λ (x : List ℕ). getD x j 0) same ∙ left .1 .0 j complete,
-                    λ j other. ap (λ (x : List ℕ). getD x j 0) same ∙ left .1 .1 j other,
-                  ),
-                ),
+            λ n l. subst (LeavesBytes o p n (M n)) (sym (slice-is o first S (lengths M) begun n (M n))) (returned n l .1),
           ),
     )
 

@@ -273,7 +273,7 @@ search-stream p points format n some =
 
 -- a stream that the search found is one of the plan's, and few
 pub stream-few : (s : Settings) → Right s → (points : List Float) (n i f : ℕ) (found : Search) → found ≡ At i f
-    → found ≡ searchOf (planFor s) points (s .format) n → i < 5
+    → found ≡ searchOf (planFor s) points (s .format) n → i < 4
 stream-few s right points n i f found e g =
     let fits = plan-fits s right in
     let range = streams-range (planFor s .streams) (fits .streams) in

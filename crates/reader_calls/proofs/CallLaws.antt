@@ -2,40 +2,33 @@
 use mathlib.Core.Path.{_≡_, _∙_, refl, sym, ap, subst}
 use mathlib.Core.Bool.{Bool, true, false, cond}
 use mathlib.Core.List.{List}
-use Prim.Native.Nat.{ℕ, _+_, _*_, _%_, _<_}
+use Prim.Native.Nat.{ℕ, _+_, _*_, _<_}
 use native.Mathlib.Nat.{mod-lt}
 use native.Mathlib.Omega.{arith}
-use lib.Dec.{ltb, leb}
+use lib.Dec.{leb}
 use lib.ListN.{length}
 use lib.Ieee.{Float}
-use Rattle.settings.specs.declared.settings.Refusal.the-variants.{Room, Closed}
-use Rattle.settings.specs.declared.settings.Settings.{Settings}
+use Rattle.settings.specs.declared.settings.Refusal.the-variants.{Closed}
 use Rattle.settings.specs.declared.settings.Checked.{Checked}
 use Rattle.settings.specs.declared.settings.Checked.the-variants.{Accepted, Refused}
-use Rattle.settings.specs.Settings.{checkOf, planFor, Right}
+use Rattle.settings.specs.Settings.{checkOf}
 use Rattle.settings.proofs.SettingsLaws.{right}
 use Rattle.symbols.proofs.CountLaws.{symbols-few}
-use Rattle.subcarriers.specs.Subcarriers.{subcarrierAt}
-use Rattle.subcarriers.proofs.SubcarrierLaws.{inside-wide, place-used-for}
-use Rattle.frame.specs.Points.{floatsOf}
-use Rattle.detector.specs.declared.search.Search.{Search}
-use Rattle.detector.specs.declared.search.Search.the-variants.{AllGiven, At}
-use Rattle.detector.specs.Detected.{searchOf}
 use Rattle.reader_state.specs.declared.state.OpenSettings.{OpenSettings}
 use Rattle.reader_state.specs.declared.state.Reader.{Reader}
 use Rattle.reader_state.specs.declared.state.StartAnswer.{StartAnswer}
 use Rattle.reader_state.specs.declared.state.Started.{Started}
 use Rattle.acceptance.specs.declared.accept.Stepped.{Stepped}
 use Rattle.reader_place.specs.declared.place.PlaceAnswer.{PlaceAnswer}
-use Rattle.reader_place.specs.declared.place.PlaceAnswer.the-variants.{Refused as PlaceRefused}
-use Rattle.reader_state.specs.State.{openRaw, startBy, startOf, closedOf}
+use Rattle.reader_place.specs.declared.place.PlaceAnswer.the-variants.{Passed, Found, Refused as PlaceRefused}
+use Rattle.reader_state.specs.State.{openRaw, startBy, startOf}
 use Rattle.reader.specs.Step.{stepOf, stepInto}
-use Rattle.reader_place.specs.Place.{foundAs, placeBy, placeOf}
-use Rattle.reader.proofs.HearLaws.{place-few}
+use Rattle.reader_place.specs.Place.{placeOf}
 use Rattle.conversions.specs.Results.{refusedResult}
 use Rattle.verdicts.specs.Statements.{settingsIn}
 use Rattle.verdicts.proofs.StepCases.{step-by}
-use Rattle.reader_numbers.specs.Numbers.{readerOf, startedResult, startResult, steppedNumber, stepResult, stepResultInto, placedResult, placeResult, PlaceRight}
+use Rattle.reader_numbers.specs.Numbers.{readerOf, startedResult, startResult, steppedNumber, closedNumber, stepResult, stepResultInto, placedResult, placeResult, PlaceRight}
+use Rattle.reader_numbers.proofs.PlaceTold.{PlaceInFrame, place-in}
 
 -- the state after a step has a symbol below 2^16
 abbrev Small : Stepped → Type 0
@@ -47,24 +40,13 @@ step-small st points bytes h =
     (λ o. omega (arith, o .in-range .below-count, symbols-few (settingsIn st) (right (openRaw (st .settings)) (settingsIn st) (o .accepted))))
 
 -- a place that is answered is a subcarrier of the channel
-found-right : (s : Settings) → Right s → (points : List Float) (n : ℕ) (x : Search) → x ≡ searchOf (planFor s) points (s .format) n → PlaceRight (foundAs x s)
-found-right s r points n AllGiven g = tt
-found-right s r points n (At i f) g =
-    inside-wide (s .width) (r .width) (subcarrierAt (s .width) f) (place-used-for (s .width) (r .width) f (place-few s points n i f (At i f) refl g) .inside)
-
-room-right : (closed small : Bool) (a : PlaceAnswer) → PlaceRight a → PlaceRight (cond closed (PlaceRefused Closed) (cond small (PlaceRefused Room) a))
-room-right true small a h = λ e. omega (arith, e)
-room-right false true a h = λ e. omega (arith, e)
-room-right false false a h = h
-
 pub place-right : (st : Reader) (points : List Float) → PlaceRight (placeOf st points)
-place-right st points = go (checkOf (openRaw (st .settings))) refl
+place-right st points = go (placeOf st points) (place-in st points)
   where
-    go : (x : Checked) → checkOf (openRaw (st .settings)) ≡ x → PlaceRight (placeBy x st points)
-    go (Accepted s) e =
-        room-right (closedOf s st) (ltb (length points) (floatsOf s)) _
-        (found-right s (right (openRaw (st .settings)) s e) points (st .symbol) (searchOf (planFor s) points (s .format) (st .symbol)) refl)
-    go (Refused r) e = λ n. omega (arith, n)
+    go : (a : PlaceAnswer) → PlaceInFrame a → PlaceRight a
+    go Passed h = tt
+    go (Found i z) h = h .1
+    go (PlaceRefused r) h = h
 
 -- ---- the calls by their tests
 
@@ -81,7 +63,7 @@ started-as s o a e f = ap (λ (b : StartAnswer). startedResult b (s .state)) (sy
 module _ (o : OpenSettings) (state : ℕ) (points : List Float) where
   -- a number that is no state
   pub step-none : (payload : List ℕ) → leb 562949953421312 state ≡ true
-      → (12 + 4096 * (state % 562949953421312) ≡ stepResult o state points (length payload)) × (payload ≡ stepResultInto o state points payload)
+      → (12 + 4096 * closedNumber state ≡ stepResult o state points (length payload)) × (payload ≡ stepResultInto o state points payload)
   step-none payload e = (simp e, simp e)
 
   pub place-none : leb 562949953421312 state ≡ true → refusedResult Closed ≡ placeResult o state points
@@ -93,7 +75,8 @@ module _ (o : OpenSettings) (state : ℕ) (points : List Float) where
       → (n ≡ stepResult o state points (length payload)) × (payload′ ≡ stepResultInto o state points payload)
   step-some payload payload′ st r n e f g h k = (
     k ∙ ap steppedNumber (g ∙ ap (λ (x : Reader). stepOf x points (length payload)) f)
-        ∙ ap (λ (b : Bool). cond b (12 + 4096 * (state % 562949953421312)) (steppedNumber (stepOf (readerOf o state) points (length payload)))) (sym e),
+        ∙ ap (λ (b : Bool). cond b (12 + 4096 * closedNumber state) (steppedNumber (stepOf (readerOf o state) points (length payload))))
+        (sym e),
     h ∙ ap (λ (x : Reader). stepInto x points payload) f ∙ ap (λ (b : Bool). cond b payload (stepInto (readerOf o state) points payload)) (sym e),
   )
 

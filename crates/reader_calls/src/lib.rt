@@ -11,10 +11,11 @@ use reader_state::state::OpenSettings;
 use reader_state::state::StartAnswer;
 use settings::settings::Refusal;
 ghost use mathlib.Core.Path.{_≡_};
+ghost use Prim.Native.Nat.{_<_};
 ghost use lib.ListN.{length};
 ghost use lib.IntN.{pos};
 ghost use Rattle.reader_state.specs.State.{startOf};
-ghost use Rattle.reader_numbers.specs.Numbers.{startResult, stepResult, stepResultInto, placeResult};
+ghost use Rattle.reader_numbers.specs.Numbers.{startResult, closedNumber, stepResult, stepResultInto, placeResult};
 
 // The reader's state before symbol 0.
 pub fn start_call(settings: OpenSettings) -> i64
@@ -29,6 +30,13 @@ pub fn start_call(settings: OpenSettings) -> i64
     }
 }
 
+// What comes back for a number that is no state: its end is marked, so that no step from it is ever open.
+fn closed_number(state: u64) -> u64
+    ensures { λ r. ⌜ (r ≡ closedNumber state) × (r < 562949953421312) ⌝ }
+{
+    state % 281474976710656 + 281474976710656
+}
+
 // One symbol read: the refusal's number, the seed and the state in one number.
 pub fn step_call(settings: OpenSettings, state: u64, points: &[f32], payload: &mut [u8]) -> i64
     ensures { λ r. ⌜ r ≡ pos (stepResult settings state (now (points .entry)) (length (now (payload .entry)))) ⌝ }
@@ -36,7 +44,7 @@ pub fn step_call(settings: OpenSettings, state: u64, points: &[f32], payload: &m
 {
     let no_state = state >= 562949953421312;
     if no_state {
-        return (12 + 4096 * (state % 562949953421312)) as i64;
+        return (12 + 4096 * closed_number(state)) as i64;
     }
     let stepped = step::step(reader_of(settings, state), points, payload);
     stepped_number(stepped) as i64

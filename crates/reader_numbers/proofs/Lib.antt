@@ -1,3 +1,4 @@
 -- The laws of this crate, file by file.
 pub mod NumberBack
 pub mod NumberLaws
+pub mod PlaceTold

@@ -1,13 +1,14 @@
 -- A state's number loses nothing: a number below 2^49 is the number of the state that it is, and a state whose fields fit is the state of its number.
 -- Assumes nothing.
-use mathlib.Core.Path.{_≡_, _∙_, refl, ap}
-use mathlib.Core.Bool.{Bool, true, false}
+use mathlib.Core.Path.{_≡_, _∙_, ap}
+use mathlib.Core.Bool.{Bool}
 use mathlib.Core.List.{[], _∷_}
 use Prim.Native.Nat.{ℕ, _+_, _*_, _/_, _%_, _<_}
 use native.Mathlib.Omega.{arith}
 use lib.Dec.{eqb}
 use Rattle.sig_words.specs.Words.{oneIf}
 use Rattle.sig_words.proofs.WordLaws.{one-small, one-back}
+use Rattle.conversions.proofs.FieldsTold.{one-told}
 use Rattle.reader_state.specs.declared.state.OpenSettings.{OpenSettings}
 use Rattle.reader_state.specs.declared.state.Reader.{Reader}
 use Rattle.reader_numbers.specs.Numbers.{stateNumber, readerOf}
@@ -59,10 +60,6 @@ at-40 x r a q l s e = omega arith
 
 at-48 : (x r a : ℕ) → r < 281474976710656 → a < 2 → x ≡ r + 281474976710656 * a → x / 281474976710656 % 2 ≡ a
 at-48 x r a l s e = omega arith
-
-one-told : (e : Bool) → eqb (oneIf e) 1 ≡ e
-one-told true = refl
-one-told false = refl
 
 -- a state's number is below 2^49
 summed-small : (n h k z p e : ℕ) → n < 65536 → h < 256 → k < 256 → z < 256 → p < 256 → e < 2

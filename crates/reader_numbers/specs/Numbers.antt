@@ -66,10 +66,14 @@ startResult s = startedResult (s .answer) (s .state)
 unfoldable pub steppedNumber : Stepped → ℕ
 steppedNumber r = stepNumber (r .answer) + 32 * stepSeed (r .answer) + 4096 * stateNumber (r .state)
 
--- a number of 2^49 or more is no state: 12, and it comes back modulo 2^49
+-- a number of 2^49 or more is no state: what comes back for it is closed, that number modulo 2^48 with its end marked
+abbrev pub closedNumber : (state : ℕ) → ℕ
+closedNumber state = state % 281474976710656 + 281474976710656
+
+-- and the step from it is 12
 abbrev pub stepResult : OpenSettings → (state : ℕ) → List Float → (bytes : ℕ) → ℕ
 stepResult o state points bytes =
-    cond (leb 562949953421312 state) (12 + 4096 * (state % 562949953421312)) (steppedNumber (stepOf (readerOf o state) points bytes))
+    cond (leb 562949953421312 state) (12 + 4096 * closedNumber state) (steppedNumber (stepOf (readerOf o state) points bytes))
 
 abbrev pub stepResultInto : OpenSettings → (state : ℕ) → List Float → List ℕ → List ℕ
 stepResultInto o state points payload = cond (leb 562949953421312 state) payload (stepInto (readerOf o state) points payload)

@@ -104,7 +104,8 @@ pub fn reader_start(open: impl Into<RawOpenSettings>) -> Result<u64, Refusal> {
 ///
 /// An accepted symbol writes the payload bytes that it completes, each at its own index, and gives
 /// the next state. 9, 10 and 11 give the same state with its end marked; 8 and 12 give the same
-/// state, of a number of 2^49 or more what it is modulo 2^49.
+/// state. For a number of 2^49 or more, which is no state, 12 gives that number modulo 2^48 with its
+/// end marked: every further step is 12 too.
 ///
 /// ```
 /// use controller::{points, reader_start, reader_step_number, RawSettings, RawStep};

@@ -595,7 +595,8 @@ fn every_number_of_a_field() {
     );
 }
 
-/// A number of 2^49 or more is no state, whatever its lower bits are; it comes back modulo 2^49.
+/// A number of 2^49 or more is no state, whatever its lower bits are. What comes back is closed: modulo 2^48 with its end marked,
+/// and every further step from it is 12 and gives it back again.
 #[test]
 fn numbers_of_2_to_the_49_and_more() {
     let mut draw = Draw::new(63);
@@ -615,9 +616,13 @@ fn numbers_of_2_to_the_49_and_more() {
                 let want = RawStep {
                     number: 12,
                     seed: 0,
-                    state: state % NO_STATE,
+                    state: state % ENDED + ENDED,
                 };
                 assert_eq!((step, place), (want, Err(12)));
+                assert_eq!(
+                    both.step(frame.open, step.state, floats, &mut lent),
+                    (want, Err(12))
+                );
             }
         }
         // The numbers below it: all of an ended state.
@@ -625,7 +630,7 @@ fn numbers_of_2_to_the_49_and_more() {
         let (step, _) = both.step(frame.open, state, floats, &mut lent);
         assert_eq!((step.number, step.state), (12, state));
     }
-    assert_eq!(both.given[12], 64 * (15 * 4 + 1));
+    assert_eq!(both.given[12], 64 * (15 * 4 * 2 + 1));
 }
 
 /// With settings that are refused every state is closed: 12, and never 1 to 4.

@@ -1,5 +1,5 @@
 -- `step_call` goes by whether the number is a state's.
-use Prim.Native.Nat.{_+_, _*_, _%_}
+use Prim.Native.Nat.{ℕ, _+_, _*_}
 use mathlib.Core.Path.{_∙_, ap}
 use native.Mathlib.Omega.{arith}
 use denote.Ref.{now}
@@ -10,6 +10,9 @@ use Rattle.reader_calls.proofs.CallLaws.{step-none, step-some, step-hel
 use borrow.Author.Needs.{needs}
 use Rattle.reader_calls.proofs.step_call.Statement.{statement}
 use Rattle.reader_calls.proofs.step_call.Tie as tie
+
+closed-number-requires : tie.Need-closed-number-requires
+closed-number-requires c κs = search needs
 
 mul-result : tie.Need-mul-result
 mul-result c = search needs
@@ -22,9 +25,13 @@ cast-result c = search needs
 
 returns : tie.Need-returns
 returns c =
-    let a = c .before .before .before in
-    let w = step-none (a .args .settings) (a .args .state) (now (a .args .points)) (now (a .args .payload)) (c .if1 .taken) in
-    (toZ-pos w64 {n = 12 + 4096 * (a .args .state % 562949953421312)} (omega arith) ∙ ap pos (w .0), w .1)
+    let a = c .before .before .before .before in
+    let w = step-none (a .args .settings) (a .args .state) (now (a .args .points)) (now (a .args .payload)) (c .before .if1 .taken) in
+    let closed = c .closed-number in (
+      toZ-pos w64 {n = 12 + 4096 * closed .result} (omega (arith, closed .ensures .1))
+          ∙ ap (λ (k : ℕ). pos (12 + 4096 * k)) (closed .ensures .0) ∙ ap pos (w .0),
+      w .1,
+    )
 
 reader-of-requires : tie.Need-reader-of-requires
 reader-of-requires c κs = search needs
@@ -57,6 +64,7 @@ pub step-call-spec : {M : Type 1} → statement M
 step-call-spec =
     tie.close
     (tie.spec
+    closed-number-requires
     mul-result
     add-result
     cast-result

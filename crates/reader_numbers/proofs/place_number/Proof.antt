@@ -6,14 +6,9 @@ use native.Mathlib.Omega.{arith}
 use Prim.Native.Nat.{ℕ, _*_}
 use lib.IntN.{ℤ, pos, _+ℤ_}
 use mir.Facts.{toZ-pos}
-use borrow.Author.Tests.{ne-eqb}
-use Rattle.settings.specs.declared.settings.Refusal.{Refusal}
-use Rattle.settings.specs.Settings.{numberOf}
-use Rattle.settings.proofs.SettingsLaws.{number-range}
 use Rattle.subcarriers.specs.Subcarriers.{Inside}
-use Rattle.conversions.specs.Results.{refusedResult}
-use Rattle.reader_place.specs.declared.place.PlaceAnswer.the-variants.{Refused as PlaceRefused}
 use Rattle.reader_numbers.specs.Numbers.{placedResult, PlaceRight}
+use Rattle.reader_numbers.proofs.NumberLaws.{refused-placed}
 use borrow.Author.Needs.{needs}
 use Rattle.reader_numbers.proofs.place_number.Statement.{statement}
 use Rattle.reader_numbers.proofs.place_number.Tie as tie
@@ -24,10 +19,6 @@ inside-as y e h = subst (Inside 40) (sym e) h
 
 placed-as : {z : ℤ} (i : ℕ) (y : ℤ) → y ≡ z → pos (256 * i) +ℤ (y +ℤ pos 128) ≡ pos (256 * i) +ℤ (z +ℤ pos 128)
 placed-as i y e = ap (λ (x : ℤ). pos (256 * i) +ℤ (x +ℤ pos 128)) e
-
--- a refusal that is no 9 is its number negated
-refused-as : (r : Refusal) → (numberOf r ≡ 9 → ⊥) → refusedResult r ≡ placedResult (PlaceRefused r)
-refused-as r other = simp (ne-eqb (numberOf r) 0 (λ e. omega (arith, e, number-range r .0)), ne-eqb (numberOf r) 9 other)
 
 enum-told : tie.Need-enum-told
 enum-told c = search needs
@@ -63,7 +54,7 @@ returns-3 : tie.Need-returns-3
 returns-3 c =
     let k = c .before .before in
     search needs ∙ c .refused .ensures
-    ∙ refused-as (k .answer2 .given .0 .0) (subst PlaceRight (k .answer2 .given .1) (k .before .before .pre))
+    ∙ refused-placed (k .answer2 .given .0 .0) (subst PlaceRight (k .answer2 .given .1) (k .before .before .pre))
     ∙ ap placedResult (sym (k .answer2 .given .1))
 
 pub place-number-spec : {M : Type 1} → statement M
