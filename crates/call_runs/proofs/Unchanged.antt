@@ -1,25 +1,28 @@
 -- A refusal changes nothing in lent memory, call by call: the term of specs/Statements. Assumes nothing.
 use mathlib.Core.Path.{_≡_, _∙_, refl, ap}
 use mathlib.Core.Bool.{Bool, true, false, cond}
-use mathlib.Core.List.{List, _++_}
+use mathlib.Core.List.{List}
 use Prim.Native.Nat.{ℕ, _+_, _*_}
+use native.Mathlib.Omega.{arith}
 use lib.Dec.{ltb, leb}
-use lib.ListN.{length, drop}
+use lib.ListN.{length}
 use lib.IntN.{pos}
 use lib.Ieee.{Float}
 use Rattle.settings.specs.declared.settings.Refusal.the-variants.{Room}
-use Rattle.settings.specs.declared.settings.Checked.{Checked}
-use Rattle.settings.specs.declared.settings.Checked.the-variants.{Accepted, Refused}
+use Rattle.settings.specs.Settings.{checkOf}
+use Rattle.settings.proofs.SettingsLaws.{number-range}
+use Rattle.signal.specs.declared.ht_sig.Written.{Written as SigWritten}
 use Rattle.signal.specs.declared.ht_sig.Written.the-variants.{Done, Refused as WriteRefused}
-use Rattle.signal.specs.HtSig.{sigBytes, fieldsOf, writtenOf, writtenInto}
+use Rattle.signal.specs.HtSig.{writtenOf, writtenNumber}
+use Rattle.signal.proofs.HtSigLaws.{refused-writes-nothing}
 use Rattle.frame.specs.declared.points.PointsAnswer.{PointsAnswer}
 use Rattle.frame.specs.declared.points.PointsAnswer.the-variants.{Written, Refused as PointsRefused}
-use Rattle.frame.specs.Points.{pointsOf, pointsIntoBy, floatsIn}
+use Rattle.frame.specs.Points.{pointsOf, pointsNumber}
+use Rattle.frame.proofs.Refusals.{refused-points-unchanged}
 use Rattle.query.specs.declared.query.QueryAnswer.{QueryAnswer}
 use Rattle.query.specs.declared.query.QueryAnswer.the-variants.{Carries, Refused as QueryRefused}
 use Rattle.query.specs.Query.{queryOf}
 use Rattle.conversions.specs.Results.{rawOf, refusedResult, writtenResult, pointsResult, carriedNumber, carriedInto, carrierResult, carrierInto}
-use Rattle.settings.specs.Settings.{checkOf}
 use Rattle.reader_state.specs.declared.state.OpenSettings.{OpenSettings}
 use Rattle.reader_state.specs.declared.state.Reader.{Reader}
 use Rattle.reader.specs.Step.{stepOf, stepInto}
@@ -35,18 +38,14 @@ use Rattle.call_runs.specs.Statements.{Negative, Unchanged, RefusalsChan
 use Rattle.call_runs.proofs.Held.{seed-below}
 use Rattle.call_runs.proofs.CallRuns.{stepped-parts}
 
-sig-unchanged : (x : Checked) → Unchanged (λ out. Negative (writtenResult (writtenOf x (length out)))) (λ out. writtenInto x out)
-sig-unchanged (Refused r) = λ out negative. refl
-sig-unchanged (Accepted s) = λ out. go out (ltb (length out) 6)
-  where
-    go : (out : List ℕ) (small : Bool) → Negative (writtenResult (cond small (WriteRefused Room) Done))
-        → cond small out (sigBytes (fieldsOf s) ++ drop 6 out) ≡ out
-    go out true negative = refl
-    go out false negative = absurd (negative 0 refl)
+-- a negative result is a refusal's
+written-refused : (r : SigWritten) → Negative (writtenResult r) → writtenNumber r ≡ 0 → ⊥
+written-refused Done negative e = negative 0 refl
+written-refused (WriteRefused r) negative e = omega (arith, e, number-range r .0)
 
-points-unchanged : (r : PointsAnswer) (symbol : ℕ → Float) (out : List Float) → Negative (pointsResult r) → pointsIntoBy r symbol out ≡ out
-points-unchanged (Written count) symbol out negative = absurd (negative count refl)
-points-unchanged (PointsRefused r) symbol out negative = refl
+points-refused : (r : PointsAnswer) → Negative (pointsResult r) → pointsNumber r ≡ 0 → ⊥
+points-refused (Written count) negative e = negative count refl
+points-refused (PointsRefused r) negative e = omega (arith, e, number-range r .0)
 
 carrier-unchanged : (r : QueryAnswer) → Unchanged (λ out. Negative (carrierResult r (length out))) (λ out. carrierInto r out)
 carrier-unchanged (QueryRefused r) = λ out negative. refl
@@ -75,10 +74,12 @@ step-unchanged o state points = λ payload. go payload (leb 562949953421312 stat
 
 pub refusals-change-nothing : RefusalsChangeNothing
 refusals-change-nothing = record {
-  «ht_sig_write» = λ w m f l d s n a g. sig-unchanged (checkOf (rawOf w m f l d s n a g));
-  «ht_points» = λ w m f l d s n a g payload symbol out.
+  «ht_sig_write» = λ w m f l d s n a g out negative.
       let checked = checkOf (rawOf w m f l d s n a g) in
-      points-unchanged (pointsOf checked (length payload) symbol (length out)) (floatsIn checked payload symbol) out;
+      refused-writes-nothing checked out (written-refused (writtenOf checked (length out)) negative);
+  «ht_points» = λ w m f l d s n a g payload symbol out negative.
+      let raw = rawOf w m f l d s n a g in
+      refused-points-unchanged raw payload symbol out (points-refused (pointsOf (checkOf raw) (length payload) symbol (length out)) negative);
   «ht_carrier» = λ w m f l d s n a g payload symbol stream z.
       carrier-unchanged (queryOf (checkOf (rawOf w m f l d s n a g)) payload symbol stream z);
   «ht_reader_step» = λ w m f l s n a g state points. step-unchanged (openOf w m f l s n a g) state points;
