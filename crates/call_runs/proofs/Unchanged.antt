@@ -79,7 +79,8 @@ refusals-change-nothing = record {
       refused-writes-nothing checked out (written-refused (writtenOf checked (length out)) negative);
   «ht_points» = λ w m f l d s n a g payload symbol out negative.
       let raw = rawOf w m f l d s n a g in
-      refused-points-unchanged raw payload symbol out (points-refused (pointsOf (checkOf raw) (length payload) symbol (length out)) negative);
+      refused-points-unchanged raw payload symbol out
+      (points-refused (pointsOf (checkOf raw) (length payload) symbol (length out)) negative);
   «ht_carrier» = λ w m f l d s n a g payload symbol stream z.
       carrier-unchanged (queryOf (checkOf (rawOf w m f l d s n a g)) payload symbol stream z);
   «ht_reader_step» = λ w m f l s n a g state points. step-unchanged (openOf w m f l s n a g) state points;
