@@ -22,6 +22,7 @@ use Rattle.reader_state.specs.State.{openRaw, startBy}
 use Rattle.reader.specs.Step.{stepOf, stepInto, stepNumber, stepSeed}
 use Rattle.conversions.proofs.Minus.{pos-told, minus-not-pos, refused-not-pos}
 use Rattle.reader_numbers.specs.Numbers.{stateNumber, readerOf, startResult, steppedNumber, closedNumber, stepResult, stepResultInto}
+use Rattle.reader_numbers.specs.Statements.{HasState}
 use Rattle.reader_runs.specs.Run.{stateBefore, answerTo, sliceAfter}
 use Rattle.reader_runs.proofs.Endings.{run-kept}
 use Rattle.demands.specs.Demand2.{lengths, LeavesBytes}
@@ -29,8 +30,8 @@ use Rattle.demands.proofs.Demand2.{demand-2a, demand-2b}
 use Rattle.frame_steps.specs.WholeFrame.{readFrameOf, frameNumber, frameSeed}
 use Rattle.frame_steps.proofs.Exactly.{reads-frame}
 use Rattle.call_runs.specs.CallRun.{numberIn, seedIn, stateIn, handedTo, resultOf, sliceLeft}
-use Rattle.call_runs.specs.Statements.{BegunWith, CallsAreSteps, CallsExactly, FrameCallExactly}
-use Rattle.call_runs.proofs.Held.{Held, held-back, held-below, start-held, step-held, answer-below, seed-below}
+use Rattle.call_runs.specs.Statements.{BegunWith, CallsAreSteps, CallStatesTold, CallsExactly, FrameCallExactly}
+use Rattle.call_runs.proofs.Held.{Held, held-back, held-below, held-told, start-held, step-held, answer-below, seed-below}
 
 -- ---- the start
 
@@ -119,6 +120,11 @@ calls-are-steps o first S bytes begun = (
     ),
   ),
 )
+
+pub call-states-told : CallStatesTold
+call-states-told o first S bytes begun n =
+    let st = stateBefore o S bytes n in
+    subst (λ (x : ℕ). HasState x st) (sym (handed-is o first S bytes begun n)) (held-told st (run-held o S bytes n))
 
 pub calls-exactly : CallsExactly
 calls-exactly o first S M m begun below room =

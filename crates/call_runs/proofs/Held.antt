@@ -7,6 +7,7 @@ use native.Mathlib.Nat.{pow-le-pow-right}
 use native.Mathlib.Omega.{arith}
 use borrow.Author.Tests.{eqb-false}
 use lib.Dec.{eqb}
+use lib.ListN.{getD}
 use lib.Ieee.{Float}
 use Rattle.chain.specs.Scrambler.{seedOf}
 use Rattle.chain.proofs.ScramblerLaws.{state-small, seed-small}
@@ -31,6 +32,8 @@ use Rattle.reader.specs.Step.{stepOf, stepNumber, stepSeed}
 use Rattle.verdicts.specs.Statements.{settingsIn, InReach}
 use Rattle.verdicts.proofs.StepCases.{heard, moved, step-by}
 use Rattle.reader_numbers.specs.Numbers.{stateNumber, readerOf}
+use Rattle.reader_numbers.specs.Statements.{HasState}
+use Rattle.reader_numbers.proofs.StateTold.{state-told}
 use Rattle.reader_numbers.proofs.NumberBack.{reader-back, number-below}
 
 -- every field has its place in the number
@@ -79,6 +82,15 @@ module _ (st : Reader) (h : Held st) where
       subst (λ (t : Reader). stateNumber t < 562949953421312) (sym is-told)
       (number-below (st .settings) (st .symbol) (h .first) (h .second) (st .scrambler) (st .part) (st .ended)
       (h .symbol-fits) (h .first-fits) (h .second-fits) (h .scrambler-fits) (h .part-fits))
+
+  -- and the number has its fields
+  pub held-told : HasState (stateNumber st) st
+  held-told =
+      state-told st (
+        h .symbol-fits,
+        subst (λ (l : List ℕ). (getD l 0 0 < 256) × ((getD l 1 0 < 256) × ((st .scrambler < 256) × (st .part < 256)))) (sym (h .two))
+            (h .first-fits, (h .second-fits, (h .scrambler-fits, h .part-fits))),
+      )
 
   held-ended : Held (endedOf st)
   held-ended = record {

@@ -21,6 +21,7 @@ use Rattle.reader_state.specs.declared.state.OpenSettings.{OpenSettings}
 use Rattle.reader_state.specs.State.{startOf}
 use Rattle.reader.specs.Step.{stepNumber, stepSeed}
 use Rattle.reader_numbers.specs.Numbers.{openOf, stateNumber, startResult, stepResult, stepResultInto}
+use Rattle.reader_numbers.specs.Statements.{HasState}
 use Rattle.reader_runs.specs.Run.{stateBefore, answerTo, sliceAfter}
 use Rattle.reader_runs.specs.Sent.{settingsFor}
 use Rattle.demands.specs.Demand2.{Begun, IsFrame, GivesSymbol, lengths, RoomAt, LeavesBytes}
@@ -44,6 +45,11 @@ CallsAreSteps = (o : OpenSettings) (first : ℕ) (S : ℕ → List Float) (bytes
     × (((slice : List ℕ) → sliceLeft o first S bytes n slice ≡ sliceAfter o S bytes n slice)
     × ((stateIn (resultOf o first S bytes n) ≡ stateNumber (stateBefore o S bytes (n + 1)))
     × (handedTo o first S bytes (n + 1) ≡ stateIn (resultOf o first S bytes n))))))
+
+-- field by field: the number handed to step n has the fields of the state before symbol n
+abbrev pub CallStatesTold : Type 0
+CallStatesTold = (o : OpenSettings) (first : ℕ) (S : ℕ → List Float) (bytes : ℕ → ℕ) → BegunWith o first
+    → (n : ℕ) → HasState (handedTo o first S bytes n) (stateBefore o S bytes n)
 
 -- and so demand 2 (a) and (b) hold of them: accepted exactly where some payload and seed give the symbols; the result of symbol 0 has that seed, and step n
 -- leaves in its slice the bytes that are now complete and all else as it was
