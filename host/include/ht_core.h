@@ -8,11 +8,12 @@
  *
  * Floats: the proofs are of the default floating-point environment, rounding to
  * nearest with exceptions masked. Another rounding, or subnormal numbers taken as
- * zero, changes no answer; that is tested and not proved. A signalling NaN among
- * points that are read raises "invalid operation", which ends a program that has
- * unmasked it: mask it around ht_reader_step, ht_reader_place and ht_read_frame. The
- * proofs know one NaN and no bits of it: that NaNs in lent memory keep their bits
- * where a call writes nothing is checked in the source and tested.
+ * zero, changes no answer; that is tested and not proved. Among points that are
+ * read a signalling NaN raises "invalid operation" and a subnormal number "denormal
+ * operand", which ends a program that has unmasked it: mask both around
+ * ht_reader_step, ht_reader_place and ht_read_frame. The proofs know one NaN and no
+ * bits of it: that NaNs in lent memory keep their bits where a call writes nothing
+ * is checked in the source and tested.
  *
  * A flag (smoothing, not_sounding, aggregation, short_guard) is off at 0 and on
  * at any other number. docs/C-API.md has the full account. */

@@ -27,10 +27,10 @@
 //!
 //! The proofs are of the default floating-point environment: rounding to nearest, exceptions masked, as
 //! every Rust program begins. Another rounding, or subnormal numbers taken as zero, changes no answer,
-//! which is tested and not proved. A signalling NaN among the points that are read raises the exception
-//! "invalid operation"; where code outside of Rust has unmasked it, that ends the program. The proofs
-//! know one NaN and no bits of it: that NaNs in lent memory keep their bits where a call writes nothing
-//! is checked in the source and tested.
+//! which is tested and not proved. Among the points that are read a signalling NaN raises the exception
+//! "invalid operation" and a subnormal number "denormal operand"; where code outside of Rust has
+//! unmasked it, that ends the program. The proofs know one NaN and no bits of it: that NaNs in lent
+//! memory keep their bits where a call writes nothing is checked in the source and tested.
 
 #![deny(unsafe_code)]
 
