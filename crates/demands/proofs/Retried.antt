@@ -158,7 +158,7 @@ module _ (o : OpenSettings) (S : ℕ → List Float) (M : ℕ → List ℕ) wher
       let st = stateBefore o (pointsOf K) (lengths (slicesOf K)) (symbols k) in
       let here : stateBefore o S (lengths M) k ≡ st = same-state K k (omega arith) in
       ⊎-elim
-      (λ (e : number k ≡ 8). refused-step-state (stateBefore o S (lengths M) k) (S k) (length (M k)) .0 e ∙ here
+      (λ (e : number k ≡ 8). refused-step-state (stateBefore o S (lengths M) k) (S k) (length (M k)) .1 (inl e) ∙ here
       ∙ ap (stateBefore o (pointsOf K) (lengths (slicesOf K))) (sym (count-8 number k e)))
       (λ (n : number k ≡ 8 → ⊥). ap (λ (t : Reader). stepOf t (S k) (length (M k)) .state) here
       ∙ ap (λ (i : ℕ). stepOf st (S i) (length (M i)) .state) (sym (attempt-found number K k l n))
@@ -298,7 +298,7 @@ retried-tells o S M K begun some seed seed′ p q frame frame′ gives gives′ 
 
 pub eight-changes-nothing : EightChangesNothing
 eight-changes-nothing o S M k e = (
-  next-state o S (lengths M) k ∙ refused-step-state (stateBefore o S (lengths M) k) (S k) (length (M k)) .0 e,
+  next-state o S (lengths M) k ∙ refused-step-state (stateBefore o S (lengths M) k) (S k) (length (M k)) .1 (inl e),
   refused-step-unchanged (stateBefore o S (lengths M) k) (S k) (M k) (λ z. omega (arith, z, e)),
 )
 
