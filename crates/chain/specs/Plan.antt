@@ -72,8 +72,8 @@ pub record Planned (w m e : ℕ) : Type 0 where
 abbrev pub groupsOf : Plan → ℕ
 groupsOf p = p .coded / (p .encoders * p .kept)
 
--- the most that a symbol has, with four streams of 64-QAM at 40 MHz: N_CBPSS, N_CBPS, and at rate 5/6 N_DBPS; and that many data bits with the last six steps of
--- two encoders before them
+-- the most that a symbol has, with four streams of 64-QAM at 40 MHz: N_CBPSS, N_CBPS, and at rate 5/6 N_DBPS; and that many data bits
+-- with the last six steps of two encoders before them
 abbrev pub mostBlock : ℕ
 mostBlock = 648
 

@@ -24,7 +24,8 @@ pub struct Plan {
     pub dbps: usize,
 }
 
-// The most that a symbol has, with four streams of 64-QAM at 40 MHz: coded bits of a stream (N_CBPSS), coded bits (N_CBPS), and at rate 5/6 data bits (N_DBPS).
+// The most that a symbol has, with four streams of 64-QAM at 40 MHz: coded bits of a stream (N_CBPSS), coded bits (N_CBPS), and at
+// rate 5/6 data bits (N_DBPS).
 pub const MOST_BLOCK: usize = 648;
 
 pub const MOST_CODED: usize = 2592;
