@@ -37,11 +37,12 @@ pub polarity-small : (format n : ℕ) → polarityBit format n < 2
 unfolding polarityBit
 polarity-small format n = scrambler-bit 127 ((n + polarityStart format) % 127)
 
--- the scrambler's output z steps on is the polarity, z by the format
-pub polarity-at : (format n z state r : ℕ) → polarityStart format ≡ z → state ≡ stateAt 127 (n + z) → r ≡ output state → r ≡ polarityBit format n
+-- the scrambler's output so many steps on is the polarity: as many more than the symbol's number as the format says
+pub polarity-at : (format n steps state r : ℕ) → state ≡ stateAt 127 steps → r ≡ output state → steps ≡ n + polarityStart format
+    → r ≡ polarityBit format n
 unfolding polarityBit
-polarity-at format n z state r e there told =
-    told ∙ ap output there ∙ sym (output-period 127 (n + z) (lit< tt)) ∙ ap (λ (k : ℕ). output (stateAt 127 ((n + k) % 127))) (sym e)
+polarity-at format n steps state r there told e =
+    told ∙ ap output there ∙ sym (output-period 127 steps (lit< tt)) ∙ ap (λ (k : ℕ). output (stateAt 127 (k % 127))) e
 
 -- the value of its row that a pilot has, where the width has so many pilots
 pub value-at : (width n q count : ℕ) → pilotsOf width ≡ count → ((n + q) % count ≡ (n + q) % pilotsOf width) × ((n + q) % count < pilotsOf width)

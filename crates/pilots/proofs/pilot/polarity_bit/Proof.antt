@@ -1,19 +1,26 @@
 -- `polarity_bit` jumps as far as the format says.
+use mathlib.Core.Path.{_≡_}
+use native.Mathlib.Omega.{arith}
 use borrow.Author.Needs.{needs}
 use lib.Dec.{lit<}
 use Rattle.chain.proofs.ScramblerLaws.{state-small}
+use Rattle.pilots.specs.Pilots.{polarityStart}
 use Rattle.pilots.proofs.PilotLaws.{polarity-at, polarity-small}
 use Rattle.pilots.proofs.pilot.polarity_bit.Statement.{statement}
 use Rattle.pilots.proofs.pilot.polarity_bit.Tie as tie
 
 returns : tie.Need-returns
 returns c =
-    let told = polarity-at (c .before .before .before .args .format) _ _ _ _ (simp (c .before .before .if1 .taken)) (c .before .jump .ensures) (c .output-of .ensures) in
+    let a = c .before .before .before .args in
+    let start : polarityStart (a .format) ≡ 2 = simp (c .before .before .if1 .taken) in
+    let told = polarity-at (a .format) (a .n) _ _ _ (c .before .jump .ensures) (c .output-of .ensures) (omega (arith, start)) in
     (told, rw told (polarity-small _ _))
 
 returns-2 : tie.Need-returns-2
 returns-2 c =
-    let told = polarity-at (c .before .before .before .args .format) _ _ _ _ (simp (c .before .before .if1 .left)) (c .before .jump2 .ensures) (c .output-of2 .ensures) in
+    let a = c .before .before .before .args in
+    let start : polarityStart (a .format) ≡ 3 = simp (c .before .before .if1 .left) in
+    let told = polarity-at (a .format) (a .n) _ _ _ (c .before .jump2 .ensures) (c .output-of2 .ensures) (omega (arith, start)) in
     (told, rw told (polarity-small _ _))
 
 add-jump : tie.Need-add-jump
