@@ -1,25 +1,18 @@
 // One step of the reader from a symbol's inputs on: its data bits, its bytes, its answer and the state after it.
+ghost use Rattle.std.specs.Prelude.{◌≡◌, ◌&&◌, ◌<◌, ltb, get_or};
+ghost use Rattle.acceptance.specs.Accepted.{scrambler_for, accepted_with, moved_with, bytes_left, part_left};
+ghost use Rattle.acceptance.specs.Asked.{bit_numbered, framed_in, ScramblerAsked, MovedAsked, RightAsked, PutBytesAsked, HearInputsAsked, HeardInputs};
+
 use assembler::bytes::put_payload;
 use chain::plan::MOST_DATA;
-use deframer::bits::descramble;
-use deframer::bits::is_framed;
-use deframer::bits::seed_of;
-use reader_state::state::Reader;
-use reader_state::state::ended;
+use deframer::bits::{descramble, is_framed, seed_of};
+use reader_state::state::{Reader, ended};
 use scrambler::register::jump;
-use settings::settings::Refusal;
-use settings::settings::Settings;
-use settings::settings::plan_of;
+use settings::settings::{Refusal, Settings, plan_of};
 use symbols::count::symbols_of;
-ghost use mathlib.Core.Path.{_≡_};
-ghost use mathlib.Core.Bool.{_&&_};
-ghost use Prim.Native.Nat.{_<_};
-ghost use lib.Dec.{ltb};
-ghost use lib.ListN.{getD};
-ghost use Rattle·acceptance·specs.specs.Accepted.{scramblerFor, acceptedWith, movedWith, bytesLeft, partLeft};
-ghost use Rattle·acceptance·specs.specs.Asked.{bitNumbered, framedIn, ScramblerAsked, MovedAsked, RightAsked, PutBytesAsked, HearInputsAsked, HeardInputs};
 
 // The first symbol with the seed, a later one, the first point that fails by its stream and subcarrier, or a refusal.
+#[derive(Drop)]
 pub enum StepAnswer {
     First(u8),
     Next,
@@ -27,6 +20,7 @@ pub enum StepAnswer {
     Refused(Refusal),
 }
 
+#[derive(Drop)]
 pub struct Stepped {
     pub answer: StepAnswer,
     pub state: Reader,
@@ -34,8 +28,8 @@ pub struct Stepped {
 
 // The scrambler at the symbol's first bit: the state's, or at symbol 0 the seed that the inputs show.
 fn scrambler_for(reader: Reader, inputs: &[u8]) -> u8
-    requires { ⌜ ScramblerAsked reader (now inputs) ⌝ }
-    ensures { λ r. ⌜ (r ≡ scramblerFor reader (λ d. getD (now (inputs .entry)) d 0)) × (r < 128) ⌝ }
+    requires { ScramblerAsked reader inputs.now }
+    ensures { (result ≡ scrambler_for reader (λ d. get_or inputs.now d 0)) × (result < 128) }
 {
     if reader.symbol == 0 {
         return seed_of(inputs);
@@ -45,7 +39,7 @@ fn scrambler_for(reader: Reader, inputs: &[u8]) -> u8
 
 // An accepted symbol's answer.
 fn accepted_as(reader: Reader, scrambler: u8) -> StepAnswer
-    ensures { λ r. ⌜ r ≡ acceptedWith reader scrambler ⌝ }
+    ensures { result ≡ accepted_with reader scrambler }
 {
     let first = reader.symbol == 0;
     if first {
@@ -56,8 +50,8 @@ fn accepted_as(reader: Reader, scrambler: u8) -> StepAnswer
 
 // The state after an accepted symbol.
 fn moved(reader: Reader, s: Settings, histories: [u8; 2], scrambler: u8, part: u8) -> Reader
-    requires { ⌜ MovedAsked s reader scrambler ⌝ }
-    ensures { λ r. ⌜ r ≡ movedWith s reader histories scrambler part ⌝ }
+    requires { MovedAsked s reader scrambler }
+    ensures { result ≡ moved_with s reader histories scrambler part }
 {
     let plan = plan_of(s);
     let settings = reader.settings;
@@ -74,8 +68,8 @@ fn moved(reader: Reader, s: Settings, histories: [u8; 2], scrambler: u8, part: u
 
 // Whether the symbol's service, tail and pad bits are right and its seed is not 0.
 fn is_right(s: Settings, symbol: u64, scrambler: u8, inputs: &[u8], plain: &[u8]) -> bool
-    requires { ⌜ RightAsked s symbol (now inputs) (now plain) ⌝ }
-    ensures { λ r. ⌜ r ≡ (ltb 0 scrambler && framedIn s symbol (now (inputs .entry)) (now (plain .entry))) ⌝ }
+    requires { RightAsked s symbol inputs.now plain.now }
+    ensures { result ≡ (ltb 0 scrambler && framed_in s symbol inputs.now plain.now) }
 {
     let plan = plan_of(s);
     let framed = is_framed(
@@ -91,9 +85,9 @@ fn is_right(s: Settings, symbol: u64, scrambler: u8, inputs: &[u8], plain: &[u8]
 
 // The bytes that the symbol completes, and the part of a byte that it leaves.
 fn put_bytes(payload: &mut [u8], s: Settings, symbol: u64, part: u8, plain: &[u8]) -> u8
-    requires { ⌜ PutBytesAsked (now payload) s symbol part (now plain) ⌝ }
-    ensures { λ _. ⌜ now (payload .exit) ≡ bytesLeft s symbol part (bitNumbered (now (plain .entry))) (now (payload .entry)) ⌝ }
-    ensures { λ r. ⌜ r ≡ partLeft s symbol part (bitNumbered (now (plain .entry))) ⌝ }
+    requires { PutBytesAsked payload.old s symbol part plain.now }
+    ensures payload_after { payload.new ≡ bytes_left s symbol part (bit_numbered plain.now) payload.old }
+    ensures value { result ≡ part_left s symbol part (bit_numbered plain.now) }
 {
     let plan = plan_of(s);
     put_payload(
@@ -114,8 +108,8 @@ pub fn hear_inputs(
     histories: [u8; 2],
     payload: &mut [u8],
 ) -> Stepped
-    requires { ⌜ HearInputsAsked s reader (now inputs) (now payload) ⌝ }
-    ensures { λ r. ⌜ HeardInputs s reader (bitNumbered (now (inputs .entry))) histories r (now (payload .entry)) (now (payload .exit)) ⌝ }
+    requires { HearInputsAsked s reader inputs.now payload.old }
+    ensures { HeardInputs s reader (bit_numbered inputs.now) histories result payload.old payload.new }
 {
     let plan = plan_of(s);
     let scrambler = scrambler_for(reader, inputs);

@@ -1,41 +1,38 @@
 -- What the calls that put the payload's bytes together ask and give.
-use mathlib.Core.Path.{_≡_}
-use mathlib.Core.List.{List}
-use Prim.Native.Nat.{ℕ, _+_, _*_, _/_, _%_, _^_, _<_, _≤_}
-use lib.ListN.{length, getD}
-use Rattle·assembler·specs.specs.Assembled.{payloadBefore, knownBit}
+use Rattle.std.specs.Prelude.{◌≡◌, List, ℕ, ◌+◌, ◌*◌, ◌/◌, ◌%◌, ◌^◌, ◌<◌, ◌≤◌, length, get_or}
+use Rattle.assembler.specs.Assembled.{payload_before, known_bit}
 
 -- bits from one place on copied to another
 pub record CopyAsked (line plain : List ℕ) (to from count : ℕ) : Type 0 where
   pub room : to + count ≤ length line
-  pub whole-plain : from + count ≤ length plain
+  pub whole_plain : from + count ≤ length plain
   pub few : count ≤ 2160
 
 -- a line of payload bits from the first of the byte that the symbol's first payload bit is in
 pub record LineAsked (line plain : List ℕ) (part bytes start count before after : ℕ) : Type 0 where
   pub room : 2176 ≤ length line
-  pub blank : (j : ℕ) → getD line j 0 ≡ 0
+  pub blank : (j : ℕ) → get_or line j 0 ≡ 0
   pub short : bytes ≤ 65535
-  pub whole-plain : count ≤ length plain
+  pub whole_plain : count ≤ length plain
   pub few : count ≤ 2160
   pub near : start ≤ 2 ^ 27
-  pub bits : (d : ℕ) → d < count → getD plain d 0 < 2
-  pub part-fits : part < 2 ^ (payloadBefore bytes start % 8)
-  pub before-is : before ≡ payloadBefore bytes start
-  pub after-is : after ≡ payloadBefore bytes (start + count)
+  pub bits : (d : ℕ) → d < count → get_or plain d 0 < 2
+  pub part_fits : part < 2 ^ (payload_before bytes start % 8)
+  pub before_is : before ≡ payload_before bytes start
+  pub after_is : after ≡ payload_before bytes (start + count)
 
 -- the known bits up to payload bit `after`, and zeros
 pub record KnownLine (bytes start part before after : ℕ) (P : ℕ → ℕ) (line₀ line : List ℕ) : Type 0 where
   pub same : length line ≡ length line₀
-  pub known : (j : ℕ) → 8 * (before / 8) + j < after → getD line j 0 ≡ knownBit bytes start part P (8 * (before / 8) + j)
-  pub rest : (j : ℕ) → after ≤ 8 * (before / 8) + j → getD line j 0 ≡ 0
-  pub bits : (j : ℕ) → getD line j 0 < 2
+  pub known : (j : ℕ) → 8 * (before / 8) + j < after → get_or line j 0 ≡ known_bit bytes start part P (8 * (before / 8) + j)
+  pub rest : (j : ℕ) → after ≤ 8 * (before / 8) + j → get_or line j 0 ≡ 0
+  pub bits : (j : ℕ) → get_or line j 0 < 2
 
 -- eight bits of a line as a byte
 pub record PackAsked (line : List ℕ) (at : ℕ) : Type 0 where
   pub whole : at + 8 ≤ length line
   pub few : at ≤ 2168
-  pub bits : (j : ℕ) → getD line j 0 < 2
+  pub bits : (j : ℕ) → get_or line j 0 < 2
 
 -- bytes of a line written from a place of the payload on
 pub record BytesAsked (payload line : List ℕ) (first count : ℕ) : Type 0 where
@@ -43,4 +40,4 @@ pub record BytesAsked (payload line : List ℕ) (first count : ℕ) : Type 0 whe
   pub near : first ≤ 65535
   pub whole : 8 * count ≤ length line
   pub few : count ≤ 271
-  pub bits : (j : ℕ) → getD line j 0 < 2
+  pub bits : (j : ℕ) → get_or line j 0 < 2

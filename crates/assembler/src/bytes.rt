@@ -1,17 +1,16 @@
 // The payload's bytes that a symbol completes, and the part of a byte that it leaves.
+ghost use Rattle.std.specs.Prelude.{◌≡◌, ◌+◌, ◌-◌, ◌*◌, ◌/◌, ◌≤◌, get_or};
+ghost use Rattle.laws.specs.Filled.{Filled};
+ghost use Rattle.assembler.specs.Assembled.{payload_before, bits_number, byte_of, part_of, known_bit, PayloadAsked};
+ghost use Rattle.assembler.specs.Asked.{CopyAsked, LineAsked, KnownLine, PackAsked, BytesAsked};
+
 use data_bits::bits::put_byte;
 use deframer::bits::nibble;
-ghost use mathlib.Core.Path.{_≡_};
-ghost use Prim.Native.Nat.{_+_, _-_, _*_, _/_, _≤_};
-ghost use lib.ListN.{getD};
-ghost use Rattle·laws.specs.Filled.{Filled};
-ghost use Rattle·assembler·specs.specs.Assembled.{payloadBefore, bitsNumber, byteOf, partOf, knownBit, PayloadAsked};
-ghost use Rattle·assembler·specs.specs.Asked.{CopyAsked, LineAsked, KnownLine, PackAsked, BytesAsked};
 
 // The payload bits before a data bit.
 pub fn payload_before(bytes: usize, d: usize) -> usize
-    requires { ⌜ bytes ≤ 65535 ⌝ }
-    ensures { λ r. ⌜ r ≡ payloadBefore bytes d ⌝ }
+    requires { bytes ≤ 65535 }
+    ensures { result ≡ payload_before bytes d }
 {
     if d <= 16 {
         return 0;
@@ -25,8 +24,8 @@ pub fn payload_before(bytes: usize, d: usize) -> usize
 
 // Bits from one place on, written from another on.
 fn copy_bits(line: &mut [u8], plain: &[u8], to: usize, from: usize, count: usize)
-    requires { ⌜ CopyAsked (now line) (now plain) to from count ⌝ }
-    ensures { λ _. ⌜ Filled 0 to (λ t. getD (now (plain .entry)) (from + t) 0) count (now (line .entry)) (now (line .exit)) ⌝ }
+    requires { CopyAsked line.old plain.now to from count }
+    ensures { Filled 0 to (λ t. get_or plain.now (from + t) 0) count line.old line.new }
 {
     let mut t: usize = 0;
     while t < count {
@@ -46,8 +45,8 @@ fn put_line(
     before: usize,
     after: usize,
 )
-    requires { ⌜ LineAsked (now line) (now plain) part bytes start count before after ⌝ }
-    ensures { λ _. ⌜ KnownLine bytes start part before after (λ d. getD (now (plain .entry)) d 0) (now (line .entry)) (now (line .exit)) ⌝ }
+    requires { LineAsked line.old plain.now part bytes start count before after }
+    ensures { KnownLine bytes start part before after (λ d. get_or plain.now d 0) line.old line.new }
 {
     put_byte(line, 0, part);
     if before < after {
@@ -57,8 +56,8 @@ fn put_line(
 
 // Eight bits of a line as a byte, low bit first.
 fn pack(line: &[u8], at: usize) -> u8
-    requires { ⌜ PackAsked (now line) at ⌝ }
-    ensures { λ r. ⌜ r ≡ bitsNumber (λ k. getD (now (line .entry)) k 0) at 8 ⌝ }
+    requires { PackAsked line.now at }
+    ensures { result ≡ bits_number (λ k. get_or line.now k 0) at 8 }
 {
     let low = nibble(line[at], line[at + 1], line[at + 2], line[at + 3]);
     let high = nibble(line[at + 4], line[at + 5], line[at + 6], line[at + 7]);
@@ -67,8 +66,8 @@ fn pack(line: &[u8], at: usize) -> u8
 
 // Whole bytes of a line, written from one place of the payload on.
 fn put_bytes(payload: &mut [u8], line: &[u8], first: usize, count: usize)
-    requires { ⌜ BytesAsked (now payload) (now line) first count ⌝ }
-    ensures { λ _. ⌜ Filled 0 first (λ k. bitsNumber (λ j. getD (now (line .entry)) j 0) (8 * k) 8) count (now (payload .entry)) (now (payload .exit)) ⌝ }
+    requires { BytesAsked payload.old line.now first count }
+    ensures { Filled 0 first (λ k. bits_number (λ j. get_or line.now j 0) (8 * k) 8) count payload.old payload.new }
 {
     let mut k: usize = 0;
     while k < count {
@@ -86,9 +85,9 @@ pub fn put_payload(
     start: usize,
     count: usize,
 ) -> u8
-    requires { ⌜ PayloadAsked (now payload) (now plain) part bytes start count ⌝ }
-    ensures { λ _. ⌜ Filled 0 (payloadBefore bytes start / 8) (λ k. byteOf (knownBit bytes start part (λ d. getD (now (plain .entry)) d 0)) (payloadBefore bytes start / 8 + k)) (payloadBefore bytes (start + count) / 8 - payloadBefore bytes start / 8) (now (payload .entry)) (now (payload .exit)) ⌝ }
-    ensures { λ r. ⌜ r ≡ partOf (knownBit bytes start part (λ d. getD (now (plain .entry)) d 0)) (payloadBefore bytes (start + count)) ⌝ }
+    requires { PayloadAsked payload.old plain.now part bytes start count }
+    ensures filled { Filled 0 (payload_before bytes start / 8) (λ k. byte_of (known_bit bytes start part (λ d. get_or plain.now d 0)) (payload_before bytes start / 8 + k)) (payload_before bytes (start + count) / 8 - payload_before bytes start / 8) payload.old payload.new }
+    ensures value { result ≡ part_of (known_bit bytes start part (λ d. get_or plain.now d 0)) (payload_before bytes (start + count)) }
 {
     let mut line = [0u8; 2176];
     let before = payload_before(bytes, start);

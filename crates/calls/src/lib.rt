@@ -1,30 +1,25 @@
 // The calls of the sending side as C callers see them: one number for each answer, a refusal as its number negated.
-use conversions::fields_number;
-use conversions::put_carried;
-use conversions::query_refusal;
-use conversions::refused;
+ghost use Rattle.std.specs.Prelude.{◌≡◌, length};
+ghost use Rattle.settings.specs.Settings.{check_of};
+ghost use Rattle.symbols.specs.Symbols.{count_of};
+ghost use Rattle.signal.specs.HtSig.{written_of, written_into, read_of};
+ghost use Rattle.frame.specs.Points.{points_of, points_into};
+ghost use Rattle.query.specs.Query.{query_of};
+ghost use Rattle.conversions.specs.Results.{count_result, written_result, read_result, points_result, carrier_result, carrier_into};
+
+use conversions::{fields_number, put_carried, query_refusal, refused};
 use frame::points;
 use frame::points::PointsAnswer;
 use query::query::QueryAnswer;
-use settings::settings::RawSettings;
-use settings::settings::Refusal;
+use settings::settings::{RawSettings, Refusal};
 use signal::ht_sig;
-use signal::ht_sig::SigRead;
-use signal::ht_sig::Written;
+use signal::ht_sig::{SigRead, Written};
 use symbols::count;
 use symbols::count::Count;
-ghost use mathlib.Core.Path.{_≡_};
-ghost use lib.ListN.{length};
-ghost use Rattle·settings.specs.Settings.{checkOf};
-ghost use Rattle·symbols.specs.Symbols.{countOf};
-ghost use Rattle·signal.specs.HtSig.{writtenOf, writtenInto, readOf};
-ghost use Rattle·frame.specs.Points.{pointsOf, pointsInto};
-ghost use Rattle·query.specs.Query.{queryOf};
-ghost use Rattle·conversions.specs.Results.{countResult, writtenResult, readResult, pointsResult, carrierResult, carrierInto};
 
 // The symbol count.
 pub fn count_call(raw: RawSettings) -> i64
-    ensures { λ r. ⌜ r ≡ countResult (countOf (checkOf raw)) ⌝ }
+    ensures { result ≡ count_result (count_of (check_of raw)) }
 {
     match count::symbol_count(raw) {
         Count::Symbols(n) => n as i64,
@@ -34,8 +29,8 @@ pub fn count_call(raw: RawSettings) -> i64
 
 // The HT-SIG bytes, written.
 pub fn sig_write_call(raw: RawSettings, out: &mut [u8]) -> i64
-    ensures { λ r. ⌜ r ≡ writtenResult (writtenOf (checkOf raw) (length (now (out .entry)))) ⌝ }
-    ensures { λ _. ⌜ now (out .exit) ≡ writtenInto (checkOf raw) (now (out .entry)) ⌝ }
+    ensures value { result ≡ written_result (written_of (check_of raw) (length out.old)) }
+    ensures out_after { out.new ≡ written_into (check_of raw) out.old }
 {
     match ht_sig::write(raw, out) {
         Written::Done => 0,
@@ -45,7 +40,7 @@ pub fn sig_write_call(raw: RawSettings, out: &mut [u8]) -> i64
 
 // The HT-SIG bytes, read.
 pub fn sig_read_call(sig: &[u8]) -> i64
-    ensures { λ r. ⌜ r ≡ readResult (readOf (now (sig .entry))) ⌝ }
+    ensures { result ≡ read_result (read_of sig.now) }
 {
     match ht_sig::read(sig) {
         SigRead::Fields(g) => fields_number(g) as i64,
@@ -55,8 +50,8 @@ pub fn sig_read_call(sig: &[u8]) -> i64
 
 // The points of one data symbol.
 pub fn points_call(raw: RawSettings, payload: &[u8], symbol: u64, out: &mut [f32]) -> i64
-    ensures { λ r. ⌜ r ≡ pointsResult (pointsOf (checkOf raw) (length (now (payload .entry))) symbol (length (now (out .entry)))) ⌝ }
-    ensures { λ _. ⌜ now (out .exit) ≡ pointsInto (checkOf raw) (now (payload .entry)) symbol (now (out .entry)) ⌝ }
+    ensures value { result ≡ points_result (points_of (check_of raw) (length payload.now) symbol (length out.old)) }
+    ensures out_after { out.new ≡ points_into (check_of raw) payload.now symbol out.old }
 {
     match points::points(raw, payload, symbol, out) {
         PointsAnswer::Written(n) => n as i64,
@@ -73,8 +68,8 @@ pub fn carrier_call(
     subcarrier: i32,
     out: &mut [f32],
 ) -> i64
-    ensures { λ r. ⌜ r ≡ carrierResult (queryOf (checkOf raw) (now (payload .entry)) symbol stream subcarrier) (length (now (out .entry))) ⌝ }
-    ensures { λ _. ⌜ now (out .exit) ≡ carrierInto (queryOf (checkOf raw) (now (payload .entry)) symbol stream subcarrier) (now (out .entry)) ⌝ }
+    ensures value { result ≡ carrier_result (query_of (check_of raw) payload.now symbol stream subcarrier) (length out.old) }
+    ensures out_after { out.new ≡ carrier_into (query_of (check_of raw) payload.now symbol stream subcarrier) out.old }
 {
     let answer = query::query::subcarrier(raw, payload, symbol, stream, subcarrier);
     let QueryAnswer::Carries(carried) = answer else {

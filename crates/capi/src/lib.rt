@@ -1,41 +1,34 @@
 // The calls over the C convention: numbers and slices in, one i64 out, a refusal as its number negated. Each gathers its settings and calls on.
+ghost use Rattle.std.specs.Prelude.{◌≡◌, length as length_of, pos};
+ghost use Rattle.abi.specs.Abi.{abi_number};
+ghost use Rattle.settings.specs.Settings.{check_of};
+ghost use Rattle.symbols.specs.Symbols.{count_of};
+ghost use Rattle.signal.specs.HtSig.{written_of, written_into, read_of};
+ghost use Rattle.frame.specs.Points.{points_of, points_into};
+ghost use Rattle.query.specs.Query.{query_of};
+ghost use Rattle.reader_state.specs.State.{start_of};
+ghost use Rattle.reader_numbers.specs.Numbers.{open_of, start_result, step_result, step_result_into, place_result};
+ghost use Rattle.frame_steps.specs.WholeFrame.{read_frame_of, read_frame_into};
+ghost use Rattle.frame_reader.specs.Result.{frame_result};
+ghost use Rattle.conversions.specs.Results.{raw_of, count_result, written_result, read_result, points_result, carrier_result, carrier_into};
+
 use abi::abi;
-use calls::carrier_call;
-use calls::count_call;
-use calls::points_call;
-use calls::sig_read_call;
-use calls::sig_write_call;
+use calls::{carrier_call, count_call, points_call, sig_read_call, sig_write_call};
 use conversions::raw_settings;
 use frame_reader::call::read_frame_call;
-use reader_calls::place_call;
-use reader_calls::start_call;
-use reader_calls::step_call;
+use reader_calls::{place_call, start_call, step_call};
 use reader_numbers::open_settings;
-ghost use mathlib.Core.Path.{_≡_};
-ghost use lib.ListN.{length as lengthOf};
-ghost use Rattle·abi.specs.Abi.{abiNumber};
-ghost use Rattle·settings.specs.Settings.{checkOf};
-ghost use Rattle·symbols.specs.Symbols.{countOf};
-ghost use Rattle·signal.specs.HtSig.{writtenOf, writtenInto, readOf};
-ghost use Rattle·frame.specs.Points.{pointsOf, pointsInto};
-ghost use Rattle·query.specs.Query.{queryOf};
-ghost use lib.IntN.{pos};
-ghost use Rattle·reader_state.specs.State.{startOf};
-ghost use Rattle·reader_numbers.specs.Numbers.{openOf, startResult, stepResult, stepResultInto, placeResult};
-ghost use Rattle·frame_steps.specs.WholeFrame.{readFrameOf, readFrameInto};
-ghost use Rattle·frame_reader.specs.Result.{frameResult};
-ghost use Rattle·conversions.specs.Results.{rawOf, countResult, writtenResult, readResult, pointsResult, carrierResult, carrierInto};
 
 // The number of this set of calls.
-#[no_mangle]
+#[unsafe(no_mangle)]
 pub extern "C" fn ht_abi() -> i64
-    ensures { λ r. ⌜ r ≡ pos abiNumber ⌝ }
+    ensures { result ≡ pos abi_number }
 {
     abi()
 }
 
 // The symbol count.
-#[no_mangle]
+#[unsafe(no_mangle)]
 pub extern "C" fn ht_symbol_count(
     width: u32,
     mcs: u32,
@@ -47,7 +40,7 @@ pub extern "C" fn ht_symbol_count(
     aggregation: u32,
     short_guard: u32,
 ) -> i64
-    ensures { λ r. ⌜ r ≡ countResult (countOf (checkOf (rawOf width mcs format length seed smoothing «not_sounding» aggregation «short_guard»))) ⌝ }
+    ensures { result ≡ count_result (count_of (check_of (raw_of width mcs format length seed smoothing not_sounding aggregation short_guard))) }
 {
     let raw = raw_settings(
         width,
@@ -64,7 +57,7 @@ pub extern "C" fn ht_symbol_count(
 }
 
 // The HT-SIG bytes, written.
-#[no_mangle]
+#[unsafe(no_mangle)]
 pub extern "C" fn ht_sig_write(
     width: u32,
     mcs: u32,
@@ -77,8 +70,8 @@ pub extern "C" fn ht_sig_write(
     short_guard: u32,
     out: &mut [u8],
 ) -> i64
-    ensures { λ r. ⌜ r ≡ writtenResult (writtenOf (checkOf (rawOf width mcs format length seed smoothing «not_sounding» aggregation «short_guard»)) (lengthOf (now (out .entry)))) ⌝ }
-    ensures { λ _. ⌜ now (out .exit) ≡ writtenInto (checkOf (rawOf width mcs format length seed smoothing «not_sounding» aggregation «short_guard»)) (now (out .entry)) ⌝ }
+    ensures value { result ≡ written_result (written_of (check_of (raw_of width mcs format length seed smoothing not_sounding aggregation short_guard)) (length_of out.old)) }
+    ensures out_after { out.new ≡ written_into (check_of (raw_of width mcs format length seed smoothing not_sounding aggregation short_guard)) out.old }
 {
     let raw = raw_settings(
         width,
@@ -95,15 +88,15 @@ pub extern "C" fn ht_sig_write(
 }
 
 // The HT-SIG bytes, read.
-#[no_mangle]
+#[unsafe(no_mangle)]
 pub extern "C" fn ht_sig_read(sig: &[u8]) -> i64
-    ensures { λ r. ⌜ r ≡ readResult (readOf (now (sig .entry))) ⌝ }
+    ensures { result ≡ read_result (read_of sig.now) }
 {
     sig_read_call(sig)
 }
 
 // The points of one data symbol.
-#[no_mangle]
+#[unsafe(no_mangle)]
 pub extern "C" fn ht_points(
     width: u32,
     mcs: u32,
@@ -118,8 +111,8 @@ pub extern "C" fn ht_points(
     symbol: u32,
     out: &mut [f32],
 ) -> i64
-    ensures { λ r. ⌜ r ≡ pointsResult (pointsOf (checkOf (rawOf width mcs format length seed smoothing «not_sounding» aggregation «short_guard»)) (lengthOf (now (payload .entry))) symbol (lengthOf (now (out .entry)))) ⌝ }
-    ensures { λ _. ⌜ now (out .exit) ≡ pointsInto (checkOf (rawOf width mcs format length seed smoothing «not_sounding» aggregation «short_guard»)) (now (payload .entry)) symbol (now (out .entry)) ⌝ }
+    ensures value { result ≡ points_result (points_of (check_of (raw_of width mcs format length seed smoothing not_sounding aggregation short_guard)) (length_of payload.now) symbol (length_of out.old)) }
+    ensures out_after { out.new ≡ points_into (check_of (raw_of width mcs format length seed smoothing not_sounding aggregation short_guard)) payload.now symbol out.old }
 {
     let raw = raw_settings(
         width,
@@ -136,7 +129,7 @@ pub extern "C" fn ht_points(
 }
 
 // What one subcarrier carries.
-#[no_mangle]
+#[unsafe(no_mangle)]
 pub extern "C" fn ht_carrier(
     width: u32,
     mcs: u32,
@@ -153,8 +146,8 @@ pub extern "C" fn ht_carrier(
     subcarrier: i32,
     out: &mut [f32],
 ) -> i64
-    ensures { λ r. ⌜ r ≡ carrierResult (queryOf (checkOf (rawOf width mcs format length seed smoothing «not_sounding» aggregation «short_guard»)) (now (payload .entry)) symbol stream subcarrier) (lengthOf (now (out .entry))) ⌝ }
-    ensures { λ _. ⌜ now (out .exit) ≡ carrierInto (queryOf (checkOf (rawOf width mcs format length seed smoothing «not_sounding» aggregation «short_guard»)) (now (payload .entry)) symbol stream subcarrier) (now (out .entry)) ⌝ }
+    ensures value { result ≡ carrier_result (query_of (check_of (raw_of width mcs format length seed smoothing not_sounding aggregation short_guard)) payload.now symbol stream subcarrier) (length_of out.old) }
+    ensures out_after { out.new ≡ carrier_into (query_of (check_of (raw_of width mcs format length seed smoothing not_sounding aggregation short_guard)) payload.now symbol stream subcarrier) out.old }
 {
     let raw = raw_settings(
         width,
@@ -171,7 +164,7 @@ pub extern "C" fn ht_carrier(
 }
 
 // The reader's state before symbol 0.
-#[no_mangle]
+#[unsafe(no_mangle)]
 pub extern "C" fn ht_reader_start(
     width: u32,
     mcs: u32,
@@ -182,7 +175,7 @@ pub extern "C" fn ht_reader_start(
     aggregation: u32,
     short_guard: u32,
 ) -> i64
-    ensures { λ r. ⌜ r ≡ startResult (startOf (openOf width mcs format length smoothing «not_sounding» aggregation «short_guard»)) ⌝ }
+    ensures { result ≡ start_result (start_of (open_of width mcs format length smoothing not_sounding aggregation short_guard)) }
 {
     let open = open_settings(
         width,
@@ -198,7 +191,7 @@ pub extern "C" fn ht_reader_start(
 }
 
 // One symbol read: the refusal's number, the seed and the state in one number.
-#[no_mangle]
+#[unsafe(no_mangle)]
 pub extern "C" fn ht_reader_step(
     width: u32,
     mcs: u32,
@@ -212,8 +205,8 @@ pub extern "C" fn ht_reader_step(
     points: &[f32],
     payload: &mut [u8],
 ) -> i64
-    ensures { λ r. ⌜ r ≡ pos (stepResult (openOf width mcs format length smoothing «not_sounding» aggregation «short_guard») state (now (points .entry)) (lengthOf (now (payload .entry)))) ⌝ }
-    ensures { λ _. ⌜ now (payload .exit) ≡ stepResultInto (openOf width mcs format length smoothing «not_sounding» aggregation «short_guard») state (now (points .entry)) (now (payload .entry)) ⌝ }
+    ensures value { result ≡ pos (step_result (open_of width mcs format length smoothing not_sounding aggregation short_guard) state points.now (length_of payload.old)) }
+    ensures payload_after { payload.new ≡ step_result_into (open_of width mcs format length smoothing not_sounding aggregation short_guard) state points.now payload.old }
 {
     let open = open_settings(
         width,
@@ -229,7 +222,7 @@ pub extern "C" fn ht_reader_step(
 }
 
 // The place of the first point that a step from this state refuses.
-#[no_mangle]
+#[unsafe(no_mangle)]
 pub extern "C" fn ht_reader_place(
     width: u32,
     mcs: u32,
@@ -242,7 +235,7 @@ pub extern "C" fn ht_reader_place(
     state: u64,
     points: &[f32],
 ) -> i64
-    ensures { λ r. ⌜ r ≡ placeResult (openOf width mcs format length smoothing «not_sounding» aggregation «short_guard») state (now (points .entry)) ⌝ }
+    ensures { result ≡ place_result (open_of width mcs format length smoothing not_sounding aggregation short_guard) state points.now }
 {
     let open = open_settings(
         width,
@@ -258,7 +251,7 @@ pub extern "C" fn ht_reader_place(
 }
 
 // A whole frame read: the seed, or the refusal's number negated.
-#[no_mangle]
+#[unsafe(no_mangle)]
 pub extern "C" fn ht_read_frame(
     width: u32,
     mcs: u32,
@@ -271,8 +264,8 @@ pub extern "C" fn ht_read_frame(
     points: &[f32],
     payload: &mut [u8],
 ) -> i64
-    ensures { λ r. ⌜ r ≡ frameResult (readFrameOf (openOf width mcs format length smoothing «not_sounding» aggregation «short_guard») (now (points .entry)) (lengthOf (now (payload .entry)))) ⌝ }
-    ensures { λ _. ⌜ now (payload .exit) ≡ readFrameInto (openOf width mcs format length smoothing «not_sounding» aggregation «short_guard») (now (points .entry)) (now (payload .entry)) ⌝ }
+    ensures value { result ≡ frame_result (read_frame_of (open_of width mcs format length smoothing not_sounding aggregation short_guard) points.now (length_of payload.old)) }
+    ensures payload_after { payload.new ≡ read_frame_into (open_of width mcs format length smoothing not_sounding aggregation short_guard) points.now payload.old }
 {
     let open = open_settings(
         width,

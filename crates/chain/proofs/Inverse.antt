@@ -1,35 +1,35 @@
 -- One encoder's inverse: kept bits force the inputs, and the first bit of each group checks them.
 -- Assumes nothing.
-use mathlib.Core.Path.{_≡_, _∙_, refl, sym, ap, ap₂, subst}
-use mathlib.Core.Logic.{⊎-elim}
+use mathlib.Core.Path.{◌≡◌, ◌∙◌, refl, sym, ap, ap₂, subst}
+use mathlib.Core.Logic.{⊎_elim}
 use mathlib.Core.Bool.{Bool, true, false, cond}
-use Prim.Native.Nat.{ℕ, zero, suc, zero-le, _+_, _-_, _*_, _/_, _%_, _<_, _≤_}
-use native.Mathlib.Nat.{mod-lt, div-add-mod, div-add-mod', mul-comm, mul-le-mul-left, mul-suc, eq-or-lt-of-le, div-lt-iff-lt-mul}
+use Prim.Native.Nat.{ℕ, zero, suc, zero-le, ◌+◌, ◌-◌, ◌*◌, ◌/◌, ◌%◌, ◌<◌, ◌≤◌}
+use native.Mathlib.Nat.{mod-lt, div-add-mod, div-add-mod', mul_comm, mul-le-mul_left, mul-suc, eq-or-lt_of_le, div-lt_iff_lt-mul}
 use native.Mathlib.Omega.{arith}
 use lib.Dec.{eqb}
-use Rattle·laws.proofs.Radix.{rem-of, quot-of}
-use Rattle·chain·specs.specs.Puncture.{keptStep}
-use Rattle·chain·specs.specs.Decoder.{historyWith, historyA, historyB, historyAfter, sumAfter, codedAfter, forcingBit, forcedHistory, forcedInput}
-use Rattle·chain·proofs.proofs.KeptLaws.{step-below}
+use Rattle.laws.proofs.Radix.{rem_of, quot_of}
+use Rattle.chain.specs.Puncture.{kept_step}
+use Rattle.chain.specs.Decoder.{history_with, history_a, history_b, history_after, sum_after, coded_after, forcing_bit, forced_history, forced_input}
+use Rattle.chain.proofs.KeptLaws.{step_below}
 
 twice : (b w x y z : ℕ) → ((b + w + x + y + z) % 2 + w + x + y + z) % 2 ≡ b % 2
 twice b w x y z = omega arith
 
 -- a sum with its own answer in the input's place gives the input back
-pub sum-twice : (m h b : ℕ) → b < 2 → sumAfter m h (sumAfter m h b) ≡ b
-unfolding sumAfter
-sum-twice m h b l = go (eqb (m % 2) 0) ∙ omega arith
+pub sum_twice : (m h b : ℕ) → b < 2 → sum_after m h (sum_after m h b) ≡ b
+unfolding sum_after
+sum_twice m h b l = go (eqb (m % 2) 0) ∙ omega arith
   where
-    go : (t : Bool) → cond t (historyA h (cond t (historyA h b) (historyB h b))) (historyB h (cond t (historyA h b) (historyB h b))) ≡ b % 2
+    go : (t : Bool) → cond t (history_a h (cond t (history_a h b) (history_b h b))) (history_b h (cond t (history_a h b) (history_b h b))) ≡ b % 2
     go true = twice b (h / 2) (h / 4) (h / 16) (h / 32)
     go false = twice b h (h / 2) (h / 4) (h / 32)
 
 -- a sum is a bit
-pub sum-bit : (m h b : ℕ) → sumAfter m h b < 2
-unfolding sumAfter
-sum-bit m h b = go (eqb (m % 2) 0)
+pub sum_bit : (m h b : ℕ) → sum_after m h b < 2
+unfolding sum_after
+sum_bit m h b = go (eqb (m % 2) 0)
   where
-    go : (t : Bool) → cond t (historyA h b) (historyB h b) < 2
+    go : (t : Bool) → cond t (history_a h b) (history_b h b) < 2
     go true = mod-lt _ (omega arith)
     go false = mod-lt _ (omega arith)
 
@@ -38,99 +38,99 @@ module _ (q : ℕ) (two : 2 ≤ q) where
   small t = omega (arith, mod-lt t {m = q - 1} (omega arith))
 
   -- where the forcing bit of step t stands in its group
-  pub forcing-place : (t : ℕ) → forcingBit q t % q ≡ t % (q - 1) + 1
-  unfolding forcingBit
-  forcing-place t = rem-of q (t / (q - 1)) (t % (q - 1) + 1) _ (small t) refl
+  pub forcing_place : (t : ℕ) → forcing_bit q t % q ≡ t % (q - 1) + 1
+  unfolding forcing_bit
+  forcing_place t = rem_of q (t / (q - 1)) (t % (q - 1) + 1) _ (small t) refl
 
-  forcing-group : (t : ℕ) → forcingBit q t / q ≡ t / (q - 1)
-  unfolding forcingBit
-  forcing-group t = quot-of q (t / (q - 1)) (t % (q - 1) + 1) _ (small t) refl
+  forcing_group : (t : ℕ) → forcing_bit q t / q ≡ t / (q - 1)
+  unfolding forcing_bit
+  forcing_group t = quot_of q (t / (q - 1)) (t % (q - 1) + 1) _ (small t) refl
 
   -- it is a bit of step t
-  pub forcing-step : (t : ℕ) → keptStep q (forcingBit q t) ≡ t
-  unfolding keptStep
-  forcing-step t = rw (forcing-group t, forcing-place t) (omega (arith, div-add-mod t (q - 1)))
+  pub forcing_step : (t : ℕ) → kept_step q (forcing_bit q t) ≡ t
+  unfolding kept_step
+  forcing_step t = rw (forcing_group t, forcing_place t) (omega (arith, div-add-mod t (q - 1)))
 
   -- within n groups
-  pub forcing-below : (t n : ℕ) → t < (q - 1) * n → forcingBit q t < q * n
-  unfolding forcingBit
-  forcing-below t n h =
-      let g : t / (q - 1) < n = div-lt-iff-lt-mul {k = q - 1} (omega arith) .1 (rw (mul-comm n (q - 1)) h) in
-      omega (arith, small t, rw (mul-suc, mul-comm q (t / (q - 1))) at (mul-le-mul-left q g))
+  pub forcing_below : (t n : ℕ) → t < (q - 1) * n → forcing_bit q t < q * n
+  unfolding forcing_bit
+  forcing_below t n h =
+      let g : t / (q - 1) < n = (div-lt_iff_lt-mul {k = q - 1} (omega arith)).1 (rw (mul_comm n (q - 1)) h) in
+      omega (arith, small t, rw (mul-suc, mul_comm q (t / (q - 1))) at (mul-le-mul_left q g))
 
   -- a kept bit that is not the first of its group is the forcing bit of its step
-  pub forcing-back : (i : ℕ) → 0 < i % q → forcingBit q (keptStep q i) ≡ i
-  unfolding forcingBit keptStep
-  forcing-back i h =
+  pub forcing_back : (i : ℕ) → 0 < i % q → forcing_bit q (kept_step q i) ≡ i
+  unfolding forcing_bit kept_step
+  forcing_back i h =
       let l : i % q < q = mod-lt i (omega arith) in
       let s : i % q - 1 < q - 1 = omega arith in
-      let e : (q - 1) * (i / q) + (i % q - 1) ≡ i / q * (q - 1) + (i % q - 1) = rw (mul-comm (q - 1) (i / q)) in
-      let d : ((q - 1) * (i / q) + (i % q - 1)) / (q - 1) ≡ i / q = quot-of (q - 1) (i / q) (i % q - 1) _ s e in
-      let m : ((q - 1) * (i / q) + (i % q - 1)) % (q - 1) ≡ i % q - 1 = rem-of (q - 1) (i / q) (i % q - 1) _ s e in
+      let e : (q - 1) * (i / q) + (i % q - 1) ≡ i / q * (q - 1) + (i % q - 1) = rw (mul_comm (q - 1) (i / q)) in
+      let d : ((q - 1) * (i / q) + (i % q - 1)) / (q - 1) ≡ i / q = quot_of (q - 1) (i / q) (i % q - 1) _ s e in
+      let m : ((q - 1) * (i / q) + (i % q - 1)) % (q - 1) ≡ i % q - 1 = rem_of (q - 1) (i / q) (i % q - 1) _ s e in
       rw (d, m) (omega (arith, div-add-mod' i q))
 
   -- the forced inputs' histories are the machine's own
-  pub forced-history : (h : ℕ) (c : ℕ → ℕ) (t : ℕ) → forcedHistory h c q t ≡ historyAfter h (forcedInput h c q) t
-  unfolding forcedHistory historyAfter forcedInput
-  forced-history h c zero = refl
-  forced-history h c (suc t) = ap₂ historyWith (forced-history h c t) refl
+  pub forced_history_lem : (h : ℕ) (c : ℕ → ℕ) (t : ℕ) → forced_history h c q t ≡ history_after h (forced_input h c q) t
+  unfolding forced_history history_after forced_input
+  forced_history_lem h c zero = refl
+  forced_history_lem h c (suc t) = ap₂ history_with (forced_history_lem h c t) refl
 
   -- c are the kept bits of n groups of inputs x after history h
-  module _ (h : ℕ) (x c : ℕ → ℕ) (n : ℕ) (bits : (t : ℕ) → t < (q - 1) * n → x t < 2) (from : (i : ℕ) → i < q * n → c i ≡ codedAfter h x q i) where
-    force : (t : ℕ) → t < (q - 1) * n → forcedHistory h c q t ≡ historyAfter h x t → forcedInput h c q t ≡ x t
-    unfolding forcedInput codedAfter
+  module _ (h : ℕ) (x c : ℕ → ℕ) (n : ℕ) (bits : (t : ℕ) → t < (q - 1) * n → x t < 2) (from : (i : ℕ) → i < q * n → c i ≡ coded_after h x q i) where
+    force : (t : ℕ) → t < (q - 1) * n → forced_history h c q t ≡ history_after h x t → forced_input h c q t ≡ x t
+    unfolding forced_input coded_after
     force t l e =
-        rw (e, from (forcingBit q t) (forcing-below t n l), forcing-place t, forcing-step t) (sum-twice _ _ _ (bits t l))
+        rw (e, from (forcing_bit q t) (forcing_below t n l), forcing_place t, forcing_step t) (sum_twice _ _ _ (bits t l))
 
-    histories : (t : ℕ) → t ≤ (q - 1) * n → forcedHistory h c q t ≡ historyAfter h x t
-    unfolding forcedHistory historyAfter forcedInput
+    histories : (t : ℕ) → t ≤ (q - 1) * n → forced_history h c q t ≡ history_after h x t
+    unfolding forced_history history_after forced_input
     histories zero l = refl
-    histories (suc t) l = ap₂ historyWith (histories t (omega arith)) (force t l (histories t (omega arith)))
+    histories (suc t) l = ap₂ history_with (histories t (omega arith)) (force t l (histories t (omega arith)))
 
     -- recovery: kept bits of inputs x force x
-    pub forced-back : (t : ℕ) → t < (q - 1) * n → forcedInput h c q t ≡ x t
-    forced-back t l = force t l (histories t (omega arith))
+    pub forced_back : (t : ℕ) → t < (q - 1) * n → forced_input h c q t ≡ x t
+    forced_back t l = force t l (histories t (omega arith))
 
     -- and the check holds
-    pub check-back : (g : ℕ) → g < n → c (q * g) ≡ codedAfter h (forcedInput h c q) q (q * g)
-    unfolding codedAfter
-    check-back g l =
-        let k : q * g < q * n = omega (arith, rw mul-suc at (mul-le-mul-left q l)) in
-        let s : keptStep q (q * g) < (q - 1) * n = step-below q (q * g) two n k in
+    pub check_back : (g : ℕ) → g < n → c (q * g) ≡ coded_after h (forced_input h c q) q (q * g)
+    unfolding coded_after
+    check_back g l =
+        let k : q * g < q * n = omega (arith, rw mul-suc at (mul-le-mul_left q l)) in
+        let s : kept_step q (q * g) < (q - 1) * n = step_below q (q * g) two n k in
         from (q * g) k
-        ∙ ap₂ (sumAfter (q * g % q))
-        (sym (histories (keptStep q (q * g)) (omega arith)) ∙ forced-history h c (keptStep q (q * g)))
-        (sym (forced-back (keptStep q (q * g)) s))
+        ∙ ap₂ (sum_after (q * g % q))
+        (sym (histories (kept_step q (q * g)) (omega arith)) ∙ forced_history_lem h c (kept_step q (q * g)))
+        (sym (forced_back (kept_step q (q * g)) s))
 
-  opened : (h : ℕ) (c : ℕ → ℕ) (t : ℕ) → forcedInput h c q t ≡ sumAfter (t % (q - 1) + 1) (forcedHistory h c q t) (c (forcingBit q t))
-  unfolding forcedInput
+  opened : (h : ℕ) (c : ℕ → ℕ) (t : ℕ) → forced_input h c q t ≡ sum_after (t % (q - 1) + 1) (forced_history h c q t) (c (forcing_bit q t))
+  unfolding forced_input
   opened h c t = refl
 
   -- the forced input of a kept bit that is not the first of its group, in that bit's own terms
-  forced-of : (h : ℕ) (c : ℕ → ℕ) (i : ℕ) → 0 < i % q
-      → forcedInput h c q (keptStep q i) ≡ sumAfter (i % q) (historyAfter h (forcedInput h c q) (keptStep q i)) (c i)
-  forced-of h c i p =
-      let b : forcingBit q (keptStep q i) ≡ i = forcing-back i p in
-      let m : keptStep q i % (q - 1) + 1 ≡ i % q = sym (forcing-place (keptStep q i)) ∙ ap (λ (k : ℕ). k % q) b in
-      opened h c (keptStep q i) ∙ rw (m, b, forced-history h c (keptStep q i))
+  forced_of : (h : ℕ) (c : ℕ → ℕ) (i : ℕ) → 0 < i % q
+      → forced_input h c q (kept_step q i) ≡ sum_after (i % q) (history_after h (forced_input h c q) (kept_step q i)) (c i)
+  forced_of h c i p =
+      let b : forcing_bit q (kept_step q i) ≡ i = forcing_back i p in
+      let m : kept_step q i % (q - 1) + 1 ≡ i % q = sym (forcing_place (kept_step q i)) ∙ ap (λ (k : ℕ). k % q) b in
+      opened h c (kept_step q i) ∙ rw (m, b, forced_history_lem h c (kept_step q i))
 
-  forced-other : (h : ℕ) (c : ℕ → ℕ) (i : ℕ) → 0 < i % q → c i < 2
-      → c i ≡ sumAfter (i % q) (historyAfter h (forcedInput h c q) (keptStep q i)) (forcedInput h c q (keptStep q i))
-  forced-other h c i p l =
-      sym (ap (sumAfter (i % q) (historyAfter h (forcedInput h c q) (keptStep q i))) (forced-of h c i p) ∙ sum-twice _ _ _ l)
+  forced_other : (h : ℕ) (c : ℕ → ℕ) (i : ℕ) → 0 < i % q → c i < 2
+      → c i ≡ sum_after (i % q) (history_after h (forced_input h c q) (kept_step q i)) (forced_input h c q (kept_step q i))
+  forced_other h c i p l =
+      sym (ap (sum_after (i % q) (history_after h (forced_input h c q) (kept_step q i))) (forced_of h c i p) ∙ sum_twice _ _ _ l)
 
   -- the converse: where the check holds, the kept bits are those of the forced inputs
-  pub forced-gives : (h : ℕ) (c : ℕ → ℕ) (n : ℕ) → ((i : ℕ) → i < q * n → c i < 2)
-      → ((g : ℕ) → g < n → c (q * g) ≡ codedAfter h (forcedInput h c q) q (q * g))
-      → (i : ℕ) → i < q * n → c i ≡ codedAfter h (forcedInput h c q) q i
-  unfolding codedAfter
-  forced-gives h c n bits check i l =
-      ⊎-elim
+  pub forced_gives : (h : ℕ) (c : ℕ → ℕ) (n : ℕ) → ((i : ℕ) → i < q * n → c i < 2)
+      → ((g : ℕ) → g < n → c (q * g) ≡ coded_after h (forced_input h c q) q (q * g))
+      → (i : ℕ) → i < q * n → c i ≡ coded_after h (forced_input h c q) q i
+  unfolding coded_after
+  forced_gives h c n bits check i l =
+      ⊎_elim
       (λ (e : 0 ≡ i % q).
       let f : i ≡ q * (i / q) = omega (arith, div-add-mod i q) in
-      let g : i / q < n = div-lt-iff-lt-mul {k = q} (omega arith) .1 (rw (mul-comm n q) l) in
-      subst (λ (k : ℕ). c k ≡ sumAfter (k % q) (historyAfter h (forcedInput h c q) (keptStep q k)) (forcedInput h c q (keptStep q k)))
+      let g : i / q < n = (div-lt_iff_lt-mul {k = q} (omega arith)).1 (rw (mul_comm n q) l) in
+      subst (λ (k : ℕ). c k ≡ sum_after (k % q) (history_after h (forced_input h c q) (kept_step q k)) (forced_input h c q (kept_step q k)))
       (sym f)
       (check (i / q) g))
-      (λ (p : 0 < i % q). forced-other h c i p (bits i l))
-      (eq-or-lt-of-le zero-le)
+      (λ (p : 0 < i % q). forced_other h c i p (bits i l))
+      (eq-or-lt_of_le zero-le)

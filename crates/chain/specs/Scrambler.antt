@@ -1,5 +1,5 @@
 -- The scrambler x^7 + x^4 + 1 (document 01 step 1; IEEE 802.11, 18.3.5.5). Its state is a number below 128: "seed bit 0 is x1, bit 6 is x7".
-use Prim.Native.Nat.{ℕ, zero, suc, _+_, _*_, _/_, _%_}
+use Rattle.std.specs.Prelude.{ℕ, zero, suc, ◌+◌, ◌*◌, ◌/◌, ◌%◌}
 
 -- stages x7 and x4 of a state
 abbrev pub stage7 : ℕ → ℕ
@@ -17,13 +17,13 @@ abbrev pub next : ℕ → ℕ
 next state = 2 * (state % 64) + output state
 
 -- the state after d steps from a seed, and output d
-unfoldable pub stateAt : (seed d : ℕ) → ℕ
-stateAt seed zero = seed
-stateAt seed (suc d) = next (stateAt seed d)
+unfoldable pub state_at : (seed d : ℕ) → ℕ
+state_at seed zero = seed
+state_at seed (suc d) = next (state_at seed d)
 
-abbrev pub scramblerBit : (seed d : ℕ) → ℕ
-scramblerBit seed d = output (stateAt seed d)
+abbrev pub scrambler_bit : (seed d : ℕ) → ℕ
+scrambler_bit seed d = output (state_at seed d)
 
 -- the seed that begins with seven given outputs: they are the state seven steps on, the newest in x1, and 120 steps more complete the period
-unfoldable pub seedOf : (o : ℕ → ℕ) → ℕ
-seedOf o = stateAt (o 6 + 2 * o 5 + 4 * o 4 + 8 * o 3 + 16 * o 2 + 32 * o 1 + 64 * o 0) 120
+unfoldable pub seed_of : (o : ℕ → ℕ) → ℕ
+seed_of o = state_at (o 6 + 2 * o 5 + 4 * o 4 + 8 * o 3 + 16 * o 2 + 32 * o 1 + 64 * o 0) 120

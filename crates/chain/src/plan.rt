@@ -1,8 +1,9 @@
 // The numbers that a width, an MCS and a number of encoders give: document 01, 'Settings'.
-ghost use mathlib.Core.Path.{_≡_};
-ghost use Rattle·chain·specs.specs.Parser.{axisBits};
-ghost use Rattle·chain·specs.specs.Plan.{carriersOf, planOf, Planned};
+ghost use Rattle.std.specs.Prelude.{◌≡◌};
+ghost use Rattle.chain.specs.Parser.{axis_bits};
+ghost use Rattle.chain.specs.Plan.{carriers_of, plan_of, Planned};
 
+#[derive(Drop)]
 pub struct Plan {
     // Channel width in MHz.
     pub width: usize,
@@ -45,15 +46,15 @@ const RATE_STEPS: [usize; 8] = [1, 1, 3, 1, 3, 2, 3, 5];
 const RATE_KEPT: [usize; 8] = [2, 2, 4, 2, 4, 3, 4, 6];
 
 fn carriers_of(width: usize) -> usize
-    ensures { λ r. ⌜ r ≡ carriersOf width ⌝ }
+    ensures { result ≡ carriers_of width }
 {
     let wide = width == 40;
     if wide { 108 } else { 52 }
 }
 
 pub fn plan_for(width: usize, mcs: usize, encoders: usize) -> Plan
-    requires { ⌜ Planned width mcs encoders ⌝ }
-    ensures { λ r. ⌜ r ≡ planOf width mcs encoders ⌝ }
+    requires { Planned width mcs encoders }
+    ensures { result ≡ plan_of width mcs encoders }
 {
     let rate = mcs % 8;
     let streams = mcs / 8 + 1;
@@ -78,7 +79,7 @@ pub fn plan_for(width: usize, mcs: usize, encoders: usize) -> Plan
 
 // Bits of one axis of a constellation point.
 pub fn axis_bits(bits: usize) -> usize
-    ensures { λ r. ⌜ r ≡ axisBits bits ⌝ }
+    ensures { result ≡ axis_bits bits }
 {
     if bits < 2 {
         return 1;

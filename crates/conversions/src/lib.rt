@@ -1,18 +1,13 @@
 // What the C calls take and return: settings from numbers, answers as one number, and what a subcarrier carries as floats.
-use query::query::Carried;
-use query::query::QueryAnswer;
-use settings::settings::RawSettings;
-use settings::settings::Refusal;
-use settings::settings::number;
+ghost use Rattle.std.specs.Prelude.{◌≡◌, ◌<◌, ◌≤◌, pos, length as length_of};
+ghost use Rattle.sig_words.specs.Words.{SigFits};
+ghost use Rattle.laws.specs.Integers.{minus};
+ghost use Rattle.conversions.specs.Results.{raw_of, refused_result, fields_number, carried_number, carried_into, IsRefusedQuery};
+
+use query::query::{Carried, QueryAnswer};
+use settings::settings::{RawSettings, Refusal, number};
 use sig_words::words;
 use sig_words::words::SigFields;
-ghost use mathlib.Core.Path.{_≡_};
-ghost use Prim.Native.Nat.{_<_, _≤_};
-ghost use lib.IntN.{pos};
-ghost use lib.ListN.{length as lengthOf};
-ghost use Rattle·sig_words.specs.Words.{SigFits};
-ghost use Rattle·laws.specs.Integers.{minus};
-ghost use Rattle·conversions·specs.specs.Results.{rawOf, refusedResult, fieldsNumber, carriedNumber, carriedInto, IsRefusedQuery};
 
 // The settings of a call: a flag is off at 0 and on at any other number.
 pub fn raw_settings(
@@ -26,7 +21,7 @@ pub fn raw_settings(
     aggregation: u32,
     short_guard: u32,
 ) -> RawSettings
-    ensures { λ r. ⌜ r ≡ rawOf width mcs format length seed smoothing «not_sounding» aggregation «short_guard» ⌝ }
+    ensures { result ≡ raw_of width mcs format length seed smoothing not_sounding aggregation short_guard }
 {
     RawSettings {
         width: width as u64,
@@ -43,28 +38,28 @@ pub fn raw_settings(
 
 // A byte as a part of a number.
 pub fn byte_number(x: u8) -> u64
-    ensures { λ r. ⌜ (r ≡ x) × (r < 256) ⌝ }
+    ensures { (result ≡ x) × (result < 256) }
 {
     x as u64
 }
 
 fn negated(n: u64) -> i64
-    requires { ⌜ n < 16 ⌝ }
-    ensures { λ r. ⌜ r ≡ minus n ⌝ }
+    requires { n < 16 }
+    ensures { result ≡ minus n }
 {
     0 - (n as i64)
 }
 
 pub fn refused(r: Refusal) -> i64
-    ensures { λ n. ⌜ n ≡ refusedResult r ⌝ }
+    ensures { result ≡ refused_result r }
 {
     negated(number(r))
 }
 
 // The fields as one number.
 pub fn fields_number(g: SigFields) -> u64
-    requires { ⌜ SigFits g ⌝ }
-    ensures { λ r. ⌜ (r ≡ fieldsNumber g) × (r < 268435456) ⌝ }
+    requires { SigFits g }
+    ensures { (result ≡ fields_number g) × (result < 268435456) }
 {
     let wide = g.width == 40;
     let flags = words::one(g.smoothing)
@@ -75,8 +70,8 @@ pub fn fields_number(g: SigFields) -> u64
 }
 
 pub fn query_refusal(answer: QueryAnswer) -> Refusal
-    requires { ⌜ IsRefusedQuery answer ⌝ }
-    ensures { λ r. ⌜ answer ≡ QueryAnswer.Refused r ⌝ }
+    requires { IsRefusedQuery answer }
+    ensures { answer ≡ QueryAnswer.Refused result }
 {
     match answer {
         QueryAnswer::Refused(r) => r,
@@ -87,8 +82,8 @@ pub fn query_refusal(answer: QueryAnswer) -> Refusal
 
 // Puts what a subcarrier carries into the lent floats: 0 for nothing, 1 for a pilot's sign, 2 for a data point.
 pub fn put_carried(carried: Carried, out: &mut [f32]) -> i64
-    requires { ⌜ 2 ≤ lengthOf (now out) ⌝ }
-    ensures { λ r. ⌜ (r ≡ pos (carriedNumber carried)) × (now (out .exit) ≡ carriedInto carried (now (out .entry))) ⌝ }
+    requires { 2 ≤ length_of out.old }
+    ensures { (result ≡ pos (carried_number carried)) × (out.new ≡ carried_into carried out.old) }
 {
     match carried {
         Carried::Silent => 0,

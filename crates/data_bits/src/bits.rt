@@ -1,15 +1,13 @@
 // The data bits before scrambling.
-ghost use mathlib.Core.Path.{_≡_};
-ghost use Prim.Native.Nat.{_+_, _-_, _*_, _/_, _%_, _≤_, _^_, min};
-ghost use lib.ListN.{length};
-ghost use Rattle·laws.specs.Filled.{Filled};
-ghost use Rattle·chain.specs.DataBits.{payloadBit};
-ghost use Rattle·data_bits·specs.specs.Asked.{DataAsked, DataFilled};
+ghost use Rattle.std.specs.Prelude.{◌≡◌, ◌+◌, ◌-◌, ◌*◌, ◌/◌, ◌%◌, ◌≤◌, ◌^◌, min, length};
+ghost use Rattle.laws.specs.Filled.{Filled};
+ghost use Rattle.chain.specs.DataBits.{payload_bit};
+ghost use Rattle.data_bits.specs.Asked.{DataAsked, DataFilled};
 
 // The bits of a byte, low bit first.
 pub fn put_byte(raw: &mut [u8], at: usize, byte: u8)
-    requires { ⌜ (at + 8 ≤ length (now raw)) × (at ≤ 2 ^ 27) ⌝ }
-    ensures { λ _. ⌜ Filled 0 at (λ k. byte / 2 ^ k % 2) 8 (now (raw .entry)) (now (raw .exit)) ⌝ }
+    requires { (at + 8 ≤ length raw.old) × (at ≤ 2 ^ 27) }
+    ensures { Filled 0 at (λ k. byte / 2 ^ k % 2) 8 raw.old raw.new }
 {
     raw[at] = byte % 2;
     raw[at + 1] = byte / 2 % 2;
@@ -23,8 +21,8 @@ pub fn put_byte(raw: &mut [u8], at: usize, byte: u8)
 
 // Whole bytes of the payload from one on, as bits.
 fn put_bytes(raw: &mut [u8], payload: &[u8], to: usize, from: usize, count: usize)
-    requires { ⌜ (8 * (to + count) ≤ length (now raw)) × (to + count ≤ 273) × (from + count ≤ length (now payload)) × (from ≤ 65535) ⌝ }
-    ensures { λ _. ⌜ Filled 0 (8 * to) (λ k. payloadBit (now (payload .entry)) (8 * from + k)) (8 * count) (now (raw .entry)) (now (raw .exit)) ⌝ }
+    requires { (8 * (to + count) ≤ length raw.old) × (to + count ≤ 273) × (from + count ≤ length payload.now) × (from ≤ 65535) }
+    ensures { Filled 0 (8 * to) (λ k. payload_bit payload.now (8 * from + k)) (8 * count) raw.old raw.new }
 {
     let mut m: usize = 0;
     while m < count {
@@ -35,7 +33,7 @@ fn put_bytes(raw: &mut [u8], payload: &[u8], to: usize, from: usize, count: usiz
 
 // How many of `count` numbers from `start` on are below a mark.
 pub fn below_mark(mark: usize, start: usize, count: usize) -> usize
-    ensures { λ r. ⌜ r ≡ min (mark - start) count ⌝ }
+    ensures { result ≡ min (mark - start) count }
 {
     if mark <= start {
         return 0;
@@ -48,8 +46,8 @@ pub fn below_mark(mark: usize, start: usize, count: usize) -> usize
 
 // The data bits before scrambling, by whole bytes: two of service, the payload's, and zeros.
 pub fn data_bits(raw: &mut [u8], payload: &[u8], bytes: usize, from: usize, count: usize)
-    requires { ⌜ DataAsked (now raw) (now payload) bytes from count ⌝ }
-    ensures { λ _. ⌜ DataFilled (now (payload .entry)) bytes from count (now (raw .entry)) (now (raw .exit)) ⌝ }
+    requires { DataAsked raw.old payload.now bytes from count }
+    ensures { DataFilled payload.now bytes from count raw.old raw.new }
 {
     let low = below_mark(2, from, count);
     let high = below_mark(bytes + 2, from, count);

@@ -1,18 +1,18 @@
 // The inputs that a symbol's coded bits force, all encoders together.
-use chain::plan::MOST_CODED;
-use chain::plan::Plan;
+ghost use Rattle.std.specs.Prelude.{◌≡◌, [], ◌∷◌};
+ghost use Rattle.laws.specs.Filled.{Filled};
+ghost use Rattle.chain.specs.Decoder.{decoded_input, decodes};
+ghost use Rattle.deinterleaver.specs.Deinterleaved.{label_bit_in, coded_of};
+ghost use Rattle.decoder.specs.Decoded.{histories_in, history_moved, SymbolInputsAsked};
+ghost use Rattle.decoder.specs.Asked.{EncodersAsked, EncodersDone};
+
+use chain::plan::{MOST_CODED, Plan};
 use coding::labels::groups_of;
 use deinterleaver::coded::symbol_coded;
 use forcing::steps::decode_encoder;
-ghost use mathlib.Core.Path.{_≡_};
-ghost use mathlib.Core.List.{[], _∷_};
-ghost use Rattle·laws.specs.Filled.{Filled};
-ghost use Rattle·chain.specs.Decoder.{decodedInput, decodes};
-ghost use Rattle·deinterleaver.specs.Deinterleaved.{labelBitIn, codedOf};
-ghost use Rattle·decoder·specs.specs.Decoded.{historiesIn, historyMoved, SymbolInputsAsked};
-ghost use Rattle·decoder·specs.specs.Asked.{EncodersAsked, EncodersDone};
 
 // The histories after a symbol, and whether any inputs give its coded bits.
+#[derive(Drop)]
 pub struct Decoded {
     pub histories: [u8; 2],
     pub sound: bool,
@@ -27,8 +27,8 @@ fn decode_symbol(
     kept: usize,
     groups: usize,
 ) -> Decoded
-    requires { ⌜ EncodersAsked (now inputs) (now coded) histories encoders kept groups ⌝ }
-    ensures { λ r. ⌜ EncodersDone (historiesIn histories) (codedOf (now (coded .entry))) encoders kept groups (r .histories) (r .sound) (now (inputs .entry)) (now (inputs .exit)) ⌝ }
+    requires { EncodersAsked inputs.old coded.now histories encoders kept groups }
+    ensures { EncodersDone (histories_in histories) (coded_of coded.now) encoders kept groups result.histories result.sound inputs.old inputs.new }
 {
     let mut after = histories;
     let mut wrong: usize = 0;
@@ -56,10 +56,10 @@ fn decode_symbol(
 
 // A symbol's inputs from all streams' label bits, after the encoders' histories.
 pub fn symbol_inputs(inputs: &mut [u8], bits: &[u8], plan: Plan, histories: [u8; 2]) -> Decoded
-    requires { ⌜ SymbolInputsAsked (now inputs) (now bits) histories plan ⌝ }
-    ensures { λ _. ⌜ Filled 0 0 (decodedInput plan (historiesIn histories) (labelBitIn plan (now (bits .entry)))) (plan .dbps) (now (inputs .entry)) (now (inputs .exit)) ⌝ }
-    ensures { λ r. ⌜ r .sound ≡ decodes plan (historiesIn histories) (labelBitIn plan (now (bits .entry))) ⌝ }
-    ensures { λ r. ⌜ r .histories ≡ historyMoved plan (historiesIn histories) (decodedInput plan (historiesIn histories) (labelBitIn plan (now (bits .entry)))) 0 ∷ (historyMoved plan (historiesIn histories) (decodedInput plan (historiesIn histories) (labelBitIn plan (now (bits .entry)))) 1 ∷ []) ⌝ }
+    requires { SymbolInputsAsked inputs.old bits.now histories plan }
+    ensures filled { Filled 0 0 (decoded_input plan (histories_in histories) (label_bit_in plan bits.now)) plan.dbps inputs.old inputs.new }
+    ensures sound_value { result.sound ≡ decodes plan (histories_in histories) (label_bit_in plan bits.now) }
+    ensures histories_value { result.histories ≡ history_moved plan (histories_in histories) (decoded_input plan (histories_in histories) (label_bit_in plan bits.now)) 0 ∷ (history_moved plan (histories_in histories) (decoded_input plan (histories_in histories) (label_bit_in plan bits.now)) 1 ∷ []) }
 {
     let mut coded = [0u8; MOST_CODED];
     symbol_coded(&mut coded, bits, plan);

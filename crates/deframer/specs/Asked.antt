@@ -1,14 +1,11 @@
 -- What the inner calls of this crate ask and give.
-use mathlib.Core.Path.{_≡_}
-use mathlib.Core.List.{List}
-use Prim.Native.Nat.{ℕ, _*_, _<_, _≤_}
-use lib.ListN.{length}
+use Rattle.std.specs.Prelude.{◌≡◌, List, ℕ, ◌*◌, ◌<◌, ◌≤◌, length}
 
 -- inputs and scrambler outputs, one on the other
 pub record TakeOffAsked (plain inputs outputs : List ℕ) (count : ℕ) : Type 0 where
   pub room : count ≤ length plain
-  pub whole-inputs : count ≤ length inputs
-  pub whole-outputs : count ≤ length outputs
+  pub whole_inputs : count ≤ length inputs
+  pub whole_outputs : count ≤ length outputs
 
 -- numbers added up from one place to another: zero exactly when all are
 pub record Counted (f : ℕ → ℕ) (from to total : ℕ) : Type 0 where

@@ -1,40 +1,37 @@
 -- What the calls that scatter label bits ask and leave: a run, a stream, all streams.
-use mathlib.Core.Path.{_≡_}
-use mathlib.Core.List.{List}
-use Prim.Native.Nat.{ℕ, _+_, _*_, _<_, _≤_}
-use lib.ListN.{length, getD}
-use Rattle·chain.specs.declared.plan.Plan.{Plan}
-use Rattle·chain.specs.Plan.{Fits, mostCoded, mostBlock}
-use Rattle·chain.specs.Labels.{share}
-use Rattle·chain.specs.Statements.{codedStream}
-use Rattle·chain.specs.Decoder.{codedIn}
-use Rattle·sources.specs.Sources.{labelSource}
-use Rattle·deinterleaver·specs.specs.Deinterleaved.{labelBitIn, codedOf}
+use Rattle.std.specs.Prelude.{◌≡◌, List, ℕ, ◌+◌, ◌*◌, ◌<◌, ◌≤◌, length, get_or}
+use Rattle.chain.specs.declared.plan.Plan.{Plan}
+use Rattle.chain.specs.Plan.{Fits, most_coded, most_block}
+use Rattle.chain.specs.Labels.{share}
+use Rattle.chain.specs.Statements.{coded_stream}
+use Rattle.chain.specs.Decoder.{coded_in}
+use Rattle.sources.specs.Sources.{label_source}
+use Rattle.deinterleaver.specs.Deinterleaved.{label_bit_in, coded_of}
 
 pub record CodedRunAsked (coded bits table : List ℕ) (shift from first count : ℕ) : Type 0 where
-  pub few : first + count ≤ mostBlock
-  pub near : from + count ≤ mostCoded
-  pub sized : length coded ≡ mostCoded
+  pub few : first + count ≤ most_block
+  pub near : from + count ≤ most_coded
+  pub sized : length coded ≡ most_coded
   pub inside : first + count ≤ length table
-  pub whole-bits : from + count ≤ length bits
-  pub reached : (k : ℕ) → k < count → getD table (first + k) 0 + shift < length coded
-  pub apart : (k l : ℕ) → k < l → l < count → getD table (first + k) 0 + shift ≡ getD table (first + l) 0 + shift → ⊥
+  pub whole_bits_lem : from + count ≤ length bits
+  pub reached : (k : ℕ) → k < count → get_or table (first + k) 0 + shift < length coded
+  pub apart : (k l : ℕ) → k < l → l < count → get_or table (first + k) 0 + shift ≡ get_or table (first + l) 0 + shift → ⊥
 
 -- with the table of label sources at hand, for stream i
 pub record CodedStreamAsked (coded bits table : List ℕ) (p : Plan) (i : ℕ) : Type 0 where
   pub fits : Fits p
-  pub sized : length coded ≡ mostCoded
-  pub whole-bits : p .streams * p .block ≤ length bits
-  pub stream : i < p .streams
-  pub wide-enough : p .block ≤ length table
-  pub tabled : (r : ℕ) → r < p .block → getD table r 0 ≡ labelSource p r
+  pub sized : length coded ≡ most_coded
+  pub whole_bits_lem : p.streams * p.block ≤ length bits
+  pub stream : i < p.streams
+  pub wide_enough : p.block ≤ length table
+  pub tabled : (r : ℕ) → r < p.block → get_or table r 0 ≡ label_source p r
 
 pub record SymbolCodedAsked (coded bits : List ℕ) (p : Plan) : Type 0 where
   pub fits : Fits p
-  pub sized : length coded ≡ mostCoded
-  pub whole-bits : p .streams * p .block ≤ length bits
+  pub sized : length coded ≡ most_coded
+  pub whole_bits_lem : p.streams * p.block ≤ length bits
 
 -- the coded bits of the first streams are their label bits'
 pub record Placed (p : Plan) (bits : List ℕ) (streams : ℕ) (coded₀ coded : List ℕ) : Type 0 where
   pub same : length coded ≡ length coded₀
-  pub done : (j y : ℕ) → j < p .encoders → y < share p → codedStream p y < streams → codedOf coded j y ≡ codedIn p (labelBitIn p bits) j y
+  pub done : (j y : ℕ) → j < p.encoders → y < share p → coded_stream p y < streams → coded_of coded j y ≡ coded_in p (label_bit_in p bits) j y

@@ -1,15 +1,12 @@
 // The coded bits of a symbol from its label bits: each label bit goes to the place that the table of the sending side reads it from.
-use chain::plan::MOST_BLOCK;
-use chain::plan::Plan;
-use chain::plan::axis_bits;
+ghost use Rattle.std.specs.Prelude.{◌+◌, get_or};
+ghost use Rattle.laws.specs.Scattered.{Scattered};
+ghost use Rattle.deinterleaver.specs.Deinterleaved.{label_bit_in, slot_of};
+ghost use Rattle.deinterleaver.specs.Asked.{CodedRunAsked, CodedStreamAsked, SymbolCodedAsked, Placed};
+
+use chain::plan::{MOST_BLOCK, Plan, axis_bits};
 use coding::labels::rotated_carriers;
-use sources::sources::label_sources;
-use sources::sources::source_index;
-ghost use Prim.Native.Nat.{_+_};
-ghost use lib.ListN.{getD};
-ghost use Rattle·laws.specs.Scattered.{Scattered};
-ghost use Rattle·deinterleaver·specs.specs.Deinterleaved.{labelBitIn, slotOf};
-ghost use Rattle·deinterleaver·specs.specs.Asked.{CodedRunAsked, CodedStreamAsked, SymbolCodedAsked, Placed};
+use sources::sources::{label_sources, source_index};
 
 // Label bits from `from` on, each to its place of the table, from `first` on, `shift` places on.
 fn put_run(
@@ -21,8 +18,8 @@ fn put_run(
     first: usize,
     count: usize,
 )
-    requires { ⌜ CodedRunAsked (now coded) (now bits) (now table) shift from first count ⌝ }
-    ensures { λ _. ⌜ Scattered 0 (λ k. getD (now (table .entry)) (first + k) 0 + shift) (λ k. getD (now (bits .entry)) (from + k) 0) count (now (coded .entry)) (now (coded .exit)) ⌝ }
+    requires { CodedRunAsked coded.old bits.now table.now shift from first count }
+    ensures { Scattered 0 (λ k. get_or table.now (first + k) 0 + shift) (λ k. get_or bits.now (from + k) 0) count coded.old coded.new }
 {
     let mut r: usize = 0;
     while r < count {
@@ -34,8 +31,8 @@ fn put_run(
 
 // Stream i's label bits: the table's places from the stream's rotation on, and round.
 fn stream_coded(coded: &mut [u8], bits: &[u8], table: &[u16], plan: Plan, i: usize)
-    requires { ⌜ CodedStreamAsked (now coded) (now bits) (now table) plan i ⌝ }
-    ensures { λ _. ⌜ Scattered 0 (λ r. slotOf plan i r) (λ r. labelBitIn plan (now (bits .entry)) i r) (plan .block) (now (coded .entry)) (now (coded .exit)) ⌝ }
+    requires { CodedStreamAsked coded.old bits.now table.now plan i }
+    ensures { Scattered 0 (λ r. slot_of plan i r) (λ r. label_bit_in plan bits.now i r) plan.block coded.old coded.new }
 {
     let block = plan.block;
     let shift = i * axis_bits(plan.bits);
@@ -48,8 +45,8 @@ fn stream_coded(coded: &mut [u8], bits: &[u8], table: &[u16], plan: Plan, i: usi
 
 // All streams' label bits: bit y of encoder j goes to 1296·j + y.
 pub fn symbol_coded(coded: &mut [u8], bits: &[u8], plan: Plan)
-    requires { ⌜ SymbolCodedAsked (now coded) (now bits) plan ⌝ }
-    ensures { λ _. ⌜ Placed plan (now (bits .entry)) (plan .streams) (now (coded .entry)) (now (coded .exit)) ⌝ }
+    requires { SymbolCodedAsked coded.old bits.now plan }
+    ensures { Placed plan bits.now plan.streams coded.old coded.new }
 {
     let mut table = [0u16; MOST_BLOCK];
     label_sources(&mut table, plan);

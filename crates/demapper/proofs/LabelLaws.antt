@@ -1,213 +1,213 @@
 -- Labels from floats: what the tables of keys give is what the search among the levels gives. Assumes nothing.
-use mathlib.Core.Path.{_≡_, _∙_, sym, ap, subst}
+use mathlib.Core.Path.{◌≡◌, ◌∙◌, sym, ap, subst}
 use mathlib.Core.Bool.{Bool, true, false, cond, not}
 use mathlib.Core.List.{List}
-use mathlib.Core.Logic.{⊎-elim}
-use Prim.Native.Nat.{ℕ, _+_, _-_, _/_, _^_, _<_, _≤_}
+use mathlib.Core.Logic.{⊎_elim}
+use Prim.Native.Nat.{ℕ, ◌+◌, ◌-◌, ◌/◌, ◌^◌, ◌<◌, ◌≤◌}
 use native.Mathlib.Omega.{arith}
 use borrow.Author.Tests.{lt-ltb, le-ltb}
 use lib.Dec.{T, eqb, ltb}
-use lib.ListN.{length, getD}
-use lib.IntN.{ℤ, negℤ}
-use lib.Ieee.{Float, nan, inf, fin, ne, binary32, ofInt, toBits, isNan}
-use lib.Ieee.Compare.{differs-from-itself}
-use Rattle·chain.specs.Plan.{axisCounts}
-use Rattle·laws.specs.Test.{among}
-use Rattle·laws.specs.Claim.{Claim, _is_, _under_, _and_, upTo, each, given, Holds, sound}
-use Rattle·laws.specs.Integers.{counted}
-use Rattle·laws.proofs.Integers.{counted-same}
-use Rattle·laws.proofs.Refusing.{true-not-false}
-use Rattle·laws.proofs.Search.{lt-or-le}
-use Rattle·mapper.specs.Levels.{whole, levelOf}
-use Rattle·demapper·specs.specs.Demapped.{levelLabel, negatedLabel}
-use Rattle·demapper·specs.specs.Asked.{keyOf, levelKeys, oneBitKeys, twoBitKeys, threeBitKeys, labelKeys, Tables, flipped}
-use Rattle·laws.proofs.Least.{Found, found-is, first-found}
+use lib.ListN.{length, get_or}
+use lib.IntN.{ℤ, neg_ℤ}
+use lib.Ieee.{Float, nan, inf, fin, ne, binary32, of_int, to_bits, is_nan}
+use lib.Ieee.Compare.{differs_from_itself}
+use Rattle.chain.specs.Plan.{axis_counts}
+use Rattle.laws.specs.Test.{among}
+use Rattle.laws.specs.Claim.{Claim, ◌is◌, ◌under◌, ◌and◌, up_to, each, given, Holds, sound}
+use Rattle.laws.specs.Integers.{counted}
+use Rattle.laws.proofs.Integers.{counted_same}
+use Rattle.laws.proofs.Refusing.{true_not_false}
+use Rattle.laws.proofs.Search.{lt_or_le}
+use Rattle.mapper.specs.Levels.{whole, level_of}
+use Rattle.demapper.specs.Demapped.{level_label, negated_label}
+use Rattle.demapper.specs.Asked.{key_of, level_keys, one_bit_keys, two_bit_keys, three_bit_keys, label_keys, Tables, flipped}
+use Rattle.laws.proofs.Least.{Found, found_is, first_found}
 
 -- a float that does not differ from itself is no NaN, and one that does has the NaN's pattern
-pub real : (x : Float) → ne x x ≡ false → T (not (isNan x))
-unfolding ne isNan
-real nan e = absurd (true-not-false e)
+pub real : (x : Float) → ne x x ≡ false → T (not (is_nan x))
+unfolding ne is_nan
+real nan e = absurd (true_not_false e)
 real (inf s) e = tt
 real (fin s m k) e = tt
 
-pub nan-bits : (x : Float) → ne x x ≡ true → toBits binary32 x ≡ 0x7fc00000
-unfolding toBits
-nan-bits x e = ap (toBits binary32) (differs-from-itself x (subst T (sym e) tt))
+pub nan_bits : (x : Float) → ne x x ≡ true → to_bits binary32 x ≡ 0x7fc00000
+unfolding to_bits
+nan_bits x e = ap (to_bits binary32) (differs_from_itself x (subst T (sym e) tt))
 
 -- the bits of the level of a label, and of its negative
-abbrev pub levelBits : (s label : ℕ) → ℕ
-levelBits s label = toBits binary32 (whole (levelOf s label))
+abbrev pub level_bits : (s label : ℕ) → ℕ
+level_bits s label = to_bits binary32 (whole (level_of s label))
 
-abbrev pub negatedBits : (s label : ℕ) → ℕ
-negatedBits s label = toBits binary32 (whole (negℤ (levelOf s label)))
+abbrev pub negated_bits : (s label : ℕ) → ℕ
+negated_bits s label = to_bits binary32 (whole (neg_ℤ (level_of s label)))
 
 -- the key of a label's level leads back to the label; the label at a key has the level there; at key 0 is none. Flipping gives the negative
-abbrev keyClaim : Claim
-keyClaim = each axisCounts λ s.
-    length (labelKeys s) is 32
-    and getD (labelKeys s) 0 0 is 2 ^ s
-    and (upTo (2 ^ s) λ l.
-    getD (labelKeys s) (keyOf (levelBits s l)) 0 is l
-    and getD levelKeys (keyOf (levelBits s l)) 0 is levelBits s l
-    and counted (levelOf s (flipped s l)) is counted (negℤ (levelOf s l))
+abbrev key_claim : Claim
+key_claim = each axis_counts λ s.
+    length (label_keys s) is 32
+    and get_or (label_keys s) 0 0 is 2 ^ s
+    and (up_to (2 ^ s) λ l.
+    get_or (label_keys s) (key_of (level_bits s l)) 0 is l
+    and get_or level_keys (key_of (level_bits s l)) 0 is level_bits s l
+    and counted (level_of s (flipped s l)) is counted (neg_ℤ (level_of s l))
     and flipped s (flipped s l) is l
     and flipped s l under 2 ^ s)
-    and (upTo 32 λ k.
-    getD (labelKeys s) k 0 under 2 ^ s + 1
-    and given (cond (ltb (getD (labelKeys s) k 0) (2 ^ s)) 1 0) 1 (getD levelKeys k 0 is levelBits s (getD (labelKeys s) k 0)))
+    and (up_to 32 λ k.
+    get_or (label_keys s) k 0 under 2 ^ s + 1
+    and given (cond (ltb (get_or (label_keys s) k 0) (2 ^ s)) 1 0) 1 (get_or level_keys k 0 is level_bits s (get_or (label_keys s) k 0)))
 
-keys : Holds keyClaim
-unfolding levelOf ofInt toBits labelKeys flipped
-keys = sound keyClaim tt
+keys : Holds key_claim
+unfolding level_of of_int to_bits label_keys flipped
+keys = sound key_claim tt
 
-module _ (s : ℕ) (known : T (among axisCounts s)) where
-  pub keys-sized : length (labelKeys s) ≡ 32
-  keys-sized = keys s known .0
+module _ (s : ℕ) (known : T (among axis_counts s)) where
+  pub keys_sized : length (label_keys s) ≡ 32
+  keys_sized = (keys s known).0
 
-  pub key-none : getD (labelKeys s) 0 0 ≡ 2 ^ s
-  key-none = keys s known .1 .0
+  pub key_none : get_or (label_keys s) 0 0 ≡ 2 ^ s
+  key_none = (keys s known).1.0
 
   -- no two labels' levels have the same bits
-  pub bits-apart : (l l′ : ℕ) → l < 2 ^ s → l′ < 2 ^ s → levelBits s l ≡ levelBits s l′ → l ≡ l′
-  bits-apart l l′ h h′ e =
-      sym (keys s known .1 .1 .0 l h .0) ∙ ap (λ (b : ℕ). getD (labelKeys s) (keyOf b) 0) e ∙ keys s known .1 .1 .0 l′ h′ .0
+  pub bits_apart : (l l' : ℕ) → l < 2 ^ s → l' < 2 ^ s → level_bits s l ≡ level_bits s l' → l ≡ l'
+  bits_apart l l' h h' e =
+      sym ((keys s known).1.1.0 l h).0 ∙ ap (λ (b : ℕ). get_or (label_keys s) (key_of b) 0) e ∙ ((keys s known).1.1.0 l' h').0
 
   -- the negative of a label's level is the flipped label's
-  pub flip-level : (l : ℕ) → l < 2 ^ s → levelOf s (flipped s l) ≡ negℤ (levelOf s l)
-  flip-level l h = counted-same _ _ (keys s known .1 .1 .0 l h .1 .1 .0)
+  pub flip_level : (l : ℕ) → l < 2 ^ s → level_of s (flipped s l) ≡ neg_ℤ (level_of s l)
+  flip_level l h = counted_same _ _ ((keys s known).1.1.0 l h).1.1.0
 
-  flip-bits : (l : ℕ) → l < 2 ^ s → levelBits s (flipped s l) ≡ negatedBits s l
-  flip-bits l h = ap (λ (z : ℤ). toBits binary32 (whole z)) (flip-level l h)
+  flip_bits : (l : ℕ) → l < 2 ^ s → level_bits s (flipped s l) ≡ negated_bits s l
+  flip_bits l h = ap (λ (z : ℤ). to_bits binary32 (whole z)) (flip_level l h)
 
-  pub flip-back : (l : ℕ) → l < 2 ^ s → flipped s (flipped s l) ≡ l
-  flip-back l h = keys s known .1 .1 .0 l h .1 .1 .1 .0
+  pub flip_back : (l : ℕ) → l < 2 ^ s → flipped s (flipped s l) ≡ l
+  flip_back l h = ((keys s known).1.1.0 l h).1.1.1.0
 
-  pub flip-below : (l : ℕ) → l < 2 ^ s → flipped s l < 2 ^ s
-  flip-below l h = keys s known .1 .1 .0 l h .1 .1 .1 .1
+  pub flip_below : (l : ℕ) → l < 2 ^ s → flipped s l < 2 ^ s
+  flip_below l h = ((keys s known).1.1.0 l h).1.1.1.1
 
-  negated-apart : (l l′ : ℕ) → l < 2 ^ s → l′ < 2 ^ s → negatedBits s l ≡ negatedBits s l′ → l ≡ l′
-  negated-apart l l′ h h′ e =
-      sym (flip-back l h)
-      ∙ ap (flipped s) (bits-apart (flipped s l) (flipped s l′) (flip-below l h) (flip-below l′ h′) (flip-bits l h ∙ e ∙ sym (flip-bits l′ h′)))
-      ∙ flip-back l′ h′
+  negated_apart : (l l' : ℕ) → l < 2 ^ s → l' < 2 ^ s → negated_bits s l ≡ negated_bits s l' → l ≡ l'
+  negated_apart l l' h h' e =
+      sym (flip_back l h)
+      ∙ ap (flipped s) (bits_apart (flipped s l) (flipped s l') (flip_below l h) (flip_below l' h') (flip_bits l h ∙ e ∙ sym (flip_bits l' h')))
+      ∙ flip_back l' h'
 
   -- the labels that the definitions search for
-  pub level-found : (x : Float) → Found (2 ^ s) (levelBits s) (toBits binary32 x) (levelLabel s x)
-  unfolding levelLabel
-  level-found x = first-found (2 ^ s) (levelBits s) (toBits binary32 x) bits-apart
+  pub level_found : (x : Float) → Found (2 ^ s) (level_bits s) (to_bits binary32 x) (level_label s x)
+  unfolding level_label
+  level_found x = first_found (2 ^ s) (level_bits s) (to_bits binary32 x) bits_apart
 
-  pub negated-found : (x : Float) → Found (2 ^ s) (negatedBits s) (toBits binary32 x) (negatedLabel s x)
-  unfolding negatedLabel
-  negated-found x = first-found (2 ^ s) (negatedBits s) (toBits binary32 x) negated-apart
+  pub negated_found : (x : Float) → Found (2 ^ s) (negated_bits s) (to_bits binary32 x) (negated_label s x)
+  unfolding negated_label
+  negated_found x = first_found (2 ^ s) (negated_bits s) (to_bits binary32 x) negated_apart
 
   -- the label at a pattern's key, where the pattern stands there too
-  pub key-label : (x : Float) → let b = toBits binary32 x in
-      keyOf b < 32 → b ≡ getD levelKeys (keyOf b) 0 → getD (labelKeys s) (keyOf b) 0 ≡ levelLabel s x
-  key-label x small e =
-      let b = toBits binary32 x in
-      let r = getD (labelKeys s) (keyOf b) 0 in
-      let at = keys s known .1 .1 .1 (keyOf b) small in
-      found-is (2 ^ s) (levelBits s) b r (levelLabel s x)
+  pub key_label : (x : Float) → let b = to_bits binary32 x in
+      key_of b < 32 → b ≡ get_or level_keys (key_of b) 0 → get_or (label_keys s) (key_of b) 0 ≡ level_label s x
+  key_label x small e =
+      let b = to_bits binary32 x in
+      let r = get_or (label_keys s) (key_of b) 0 in
+      let at = (keys s known).1.1.1 (key_of b) small in
+      found_is (2 ^ s) (level_bits s) b r (level_label s x)
       (record {
-        told = λ l h g. sym (keys s known .1 .1 .0 l h .0) ∙ ap (λ (v : ℕ). getD (labelKeys s) (keyOf v) 0) (sym g);
-        shows = λ h. e ∙ at .1 (ap (λ (t : Bool). cond t 1 0) (lt-ltb r (2 ^ s) h));
-        most = omega (arith, at .0);
+        told = λ l h g. sym ((keys s known).1.1.0 l h).0 ∙ ap (λ (v : ℕ). get_or (label_keys s) (key_of v) 0) (sym g);
+        shows = λ h. e ∙ at.1 (ap (λ (t : Bool). cond t 1 0) (lt-ltb r (2 ^ s) h));
+        most = omega (arith, at.0);
       })
-      (level-found x)
+      (level_found x)
 
   -- and where another stands there: none
-  pub key-other : (x : Float) → let b = toBits binary32 x in
-      (b ≡ getD levelKeys (keyOf b) 0 → ⊥) → getD (labelKeys s) 0 0 ≡ levelLabel s x
-  key-other x n =
-      let b = toBits binary32 x in
-      let none : getD (labelKeys s) 0 0 ≡ 2 ^ s = key-none in
-      found-is (2 ^ s) (levelBits s) b (getD (labelKeys s) 0 0) (levelLabel s x)
+  pub key_other : (x : Float) → let b = to_bits binary32 x in
+      (b ≡ get_or level_keys (key_of b) 0 → ⊥) → get_or (label_keys s) 0 0 ≡ level_label s x
+  key_other x n =
+      let b = to_bits binary32 x in
+      let none : get_or (label_keys s) 0 0 ≡ 2 ^ s = key_none in
+      found_is (2 ^ s) (level_bits s) b (get_or (label_keys s) 0 0) (level_label s x)
       (record {
-        told = λ l h g. absurd (n (g ∙ sym (keys s known .1 .1 .0 l h .1 .0) ∙ ap (λ (v : ℕ). getD levelKeys (keyOf v) 0) (sym g)));
+        told = λ l h g. absurd (n (g ∙ sym ((keys s known).1.1.0 l h).1.0 ∙ ap (λ (v : ℕ). get_or level_keys (key_of v) 0) (sym g)));
         shows = λ h. absurd (omega (arith, h, none));
         most = omega arith;
       })
-      (level-found x)
+      (level_found x)
 
   -- 2^s stays
-  flip-none : flipped s (2 ^ s) ≡ 2 ^ s
+  flip_none : flipped s (2 ^ s) ≡ 2 ^ s
   unfolding flipped
-  flip-none = simp (le-ltb (2 ^ s) (2 ^ s / 2) (omega arith), le-ltb (2 ^ s) (2 ^ s) (omega arith))
+  flip_none = simp (le-ltb (2 ^ s) (2 ^ s / 2) (omega arith), le-ltb (2 ^ s) (2 ^ s) (omega arith))
 
   -- the label of the negative is the flipped label
-  pub flip-label : (x : Float) → flipped s (levelLabel s x) ≡ negatedLabel s x
-  flip-label x =
-      let b = toBits binary32 x in
-      let m = levelLabel s x in
-      let f = level-found x in
-      found-is (2 ^ s) (negatedBits s) b (flipped s m) (negatedLabel s x)
+  pub flip_label : (x : Float) → flipped s (level_label s x) ≡ negated_label s x
+  flip_label x =
+      let b = to_bits binary32 x in
+      let m = level_label s x in
+      let f = level_found x in
+      found_is (2 ^ s) (negated_bits s) b (flipped s m) (negated_label s x)
       (record {
-        told = λ l h g. sym (flip-back l h) ∙ ap (flipped s) (f .told (flipped s l) (flip-below l h) (g ∙ sym (flip-bits l h)));
-        shows = λ h. ⊎-elim
+        told = λ l h g. sym (flip_back l h) ∙ ap (flipped s) (f.told (flipped s l) (flip_below l h) (g ∙ sym (flip_bits l h)));
+        shows = λ h. ⊎_elim
             (λ (u : m < 2 ^ s).
-            f .shows u ∙ ap (levelBits s) (sym (flip-back m u)) ∙ flip-bits (flipped s m) (flip-below m u))
-            (λ (u : 2 ^ s ≤ m). absurd (stays u h)) (lt-or-le m (2 ^ s));
-        most = ⊎-elim (λ (u : m < 2 ^ s). omega (arith, flip-below m u))
-            (λ (u : 2 ^ s ≤ m). omega (arith, ap (flipped s) (is-none u), flip-none)) (lt-or-le m (2 ^ s));
+            f.shows u ∙ ap (level_bits s) (sym (flip_back m u)) ∙ flip_bits (flipped s m) (flip_below m u))
+            (λ (u : 2 ^ s ≤ m). absurd (stays u h)) (lt_or_le m (2 ^ s));
+        most = ⊎_elim (λ (u : m < 2 ^ s). omega (arith, flip_below m u))
+            (λ (u : 2 ^ s ≤ m). omega (arith, ap (flipped s) (is_none u), flip_none)) (lt_or_le m (2 ^ s));
       })
-      (negated-found x)
+      (negated_found x)
     where
-      is-none : 2 ^ s ≤ levelLabel s x → levelLabel s x ≡ 2 ^ s
-      is-none u = omega (arith, level-found x .most)
+      is_none : 2 ^ s ≤ level_label s x → level_label s x ≡ 2 ^ s
+      is_none u = omega (arith, (level_found x).most)
 
-      stays : 2 ^ s ≤ levelLabel s x → flipped s (levelLabel s x) < 2 ^ s → ⊥
-      stays u h = omega (arith, h, ap (flipped s) (is-none u), flip-none)
+      stays : 2 ^ s ≤ level_label s x → flipped s (level_label s x) < 2 ^ s → ⊥
+      stays u h = omega (arith, h, ap (flipped s) (is_none u), flip_none)
 
 -- the same of tables that a function was handed
 module _ (s : ℕ) (levels labels : List ℕ) (tables : Tables s levels labels) where
-  pub levels-sized : length levels ≡ 32
-  levels-sized = ap length (tables .levels-are)
+  pub levels_sized : length levels ≡ 32
+  levels_sized = ap length tables.levels_are
 
-  pub labels-sized : length labels ≡ 32
-  labels-sized = ap length (tables .labels-are) ∙ keys-sized s (tables .axis)
+  pub labels_sized : length labels ≡ 32
+  labels_sized = ap length tables.labels_are ∙ keys_sized s tables.axis
 
-  pub label-there : (x : Float) (b k : ℕ) → b ≡ toBits binary32 x → k ≡ keyOf b → k < 32 → b ≡ getD levels k 0 → getD labels k 0 ≡ levelLabel s x
-  label-there x b k e g small there =
-      let at : k ≡ keyOf (toBits binary32 x) = g ∙ ap keyOf e in
-      ap (λ (l : List ℕ). getD l k 0) (tables .labels-are) ∙ ap (λ (j : ℕ). getD (labelKeys s) j 0) at
-      ∙ key-label s (tables .axis) x (subst (λ (j : ℕ). j < 32) at small)
-      (sym e ∙ there ∙ ap (λ (l : List ℕ). getD l k 0) (tables .levels-are) ∙ ap (λ (j : ℕ). getD levelKeys j 0) at)
+  pub label_there : (x : Float) (b k : ℕ) → b ≡ to_bits binary32 x → k ≡ key_of b → k < 32 → b ≡ get_or levels k 0 → get_or labels k 0 ≡ level_label s x
+  label_there x b k e g small there =
+      let at : k ≡ key_of (to_bits binary32 x) = g ∙ ap key_of e in
+      ap (λ (l : List ℕ). get_or l k 0) tables.labels_are ∙ ap (λ (j : ℕ). get_or (label_keys s) j 0) at
+      ∙ key_label s tables.axis x (subst (λ (j : ℕ). j < 32) at small)
+      (sym e ∙ there ∙ ap (λ (l : List ℕ). get_or l k 0) tables.levels_are ∙ ap (λ (j : ℕ). get_or level_keys j 0) at)
 
-  pub label-other : (x : Float) (b k : ℕ) → b ≡ toBits binary32 x → k ≡ keyOf b → (b ≡ getD levels k 0 → ⊥) → getD labels 0 0 ≡ levelLabel s x
-  label-other x b k e g n =
-      let at : k ≡ keyOf (toBits binary32 x) = g ∙ ap keyOf e in
-      ap (λ (l : List ℕ). getD l 0 0) (tables .labels-are)
-      ∙ key-other s (tables .axis) x
-      (λ there. n (e ∙ there ∙ ap (λ (j : ℕ). getD levelKeys j 0) (sym at) ∙ ap (λ (l : List ℕ). getD l k 0) (sym (tables .levels-are))))
+  pub label_other : (x : Float) (b k : ℕ) → b ≡ to_bits binary32 x → k ≡ key_of b → (b ≡ get_or levels k 0 → ⊥) → get_or labels 0 0 ≡ level_label s x
+  label_other x b k e g n =
+      let at : k ≡ key_of (to_bits binary32 x) = g ∙ ap key_of e in
+      ap (λ (l : List ℕ). get_or l 0 0) tables.labels_are
+      ∙ key_other s tables.axis x
+      (λ there. n (e ∙ there ∙ ap (λ (j : ℕ). get_or level_keys j 0) (sym at) ∙ ap (λ (l : List ℕ). get_or l k 0) (sym tables.levels_are)))
 
 -- the table of s bits by the code's tests
-pub keys-by : (s : ℕ) (three two : Bool) → eqb s 3 ≡ three → eqb s 2 ≡ two → cond three threeBitKeys (cond two twoBitKeys oneBitKeys) ≡ labelKeys s
-unfolding labelKeys
-keys-by s three two e g = sym (simp (e, g))
+pub keys_by : (s : ℕ) (three two : Bool) → eqb s 3 ≡ three → eqb s 2 ≡ two → cond three three_bit_keys (cond two two_bit_keys one_bit_keys) ≡ label_keys s
+unfolding label_keys
+keys_by s three two e g = sym (simp (e, g))
 
 -- an axis has at most eight labels
-abbrev fewClaim : Claim
-fewClaim = each axisCounts λ s. 2 ^ s under 9
+abbrev few_claim : Claim
+few_claim = each axis_counts λ s. 2 ^ s under 9
 
-few : (s : ℕ) → T (among axisCounts s) → 2 ^ s ≤ 8
-few s known = omega (arith, sound fewClaim tt s known)
+few : (s : ℕ) → T (among axis_counts s) → 2 ^ s ≤ 8
+few s known = omega (arith, sound few_claim tt s known)
 
 -- what stands at key 0
-module _ (s : ℕ) (labels : List ℕ) (known : T (among axisCounts s)) (e : labels ≡ labelKeys s) where
-  pub all-labels : getD labels 0 0 ≡ 2 ^ s
-  all-labels = ap (λ (l : List ℕ). getD l 0 0) e ∙ key-none s known
+module _ (s : ℕ) (labels : List ℕ) (known : T (among axis_counts s)) (e : labels ≡ label_keys s) where
+  pub all_labels : get_or labels 0 0 ≡ 2 ^ s
+  all_labels = ap (λ (l : List ℕ). get_or l 0 0) e ∙ key_none s known
 
-  pub all-few : getD labels 0 0 ≤ 8
-  all-few = omega (arith, all-labels, few s known)
+  pub all_few : get_or labels 0 0 ≤ 8
+  all_few = omega (arith, all_labels, few s known)
 
-  pub keys-some : 0 < length labels
-  keys-some = omega (arith, ap length e, keys-sized s known)
+  pub keys_some : 0 < length labels
+  keys_some = omega (arith, ap length e, keys_sized s known)
 
   -- the flipped label by the code's tests
-  pub flip-by : (label : ℕ) (low high : Bool) → ltb label (getD labels 0 0 / 2) ≡ low → ltb label (getD labels 0 0) ≡ high
-      → cond low (label + getD labels 0 0 / 2) (cond high (label - getD labels 0 0 / 2) (getD labels 0 0)) ≡ flipped s label
+  pub flip_by : (label : ℕ) (low high : Bool) → ltb label (get_or labels 0 0 / 2) ≡ low → ltb label (get_or labels 0 0) ≡ high
+      → cond low (label + get_or labels 0 0 / 2) (cond high (label - get_or labels 0 0 / 2) (get_or labels 0 0)) ≡ flipped s label
   unfolding flipped
-  flip-by label low high p q =
-      ap (λ (t : Bool). cond t (label + getD labels 0 0 / 2) (cond high (label - getD labels 0 0 / 2) (getD labels 0 0))) (sym p)
-      ∙ ap (λ (t : Bool). cond (ltb label (getD labels 0 0 / 2)) (label + getD labels 0 0 / 2) (cond t (label - getD labels 0 0 / 2) (getD labels 0 0))) (sym q)
-      ∙ ap (λ (m : ℕ). cond (ltb label (m / 2)) (label + m / 2) (cond (ltb label m) (label - m / 2) m)) all-labels
+  flip_by label low high p q =
+      ap (λ (t : Bool). cond t (label + get_or labels 0 0 / 2) (cond high (label - get_or labels 0 0 / 2) (get_or labels 0 0))) (sym p)
+      ∙ ap (λ (t : Bool). cond (ltb label (get_or labels 0 0 / 2)) (label + get_or labels 0 0 / 2) (cond t (label - get_or labels 0 0 / 2) (get_or labels 0 0))) (sym q)
+      ∙ ap (λ (m : ℕ). cond (ltb label (m / 2)) (label + m / 2) (cond (ltb label m) (label - m / 2) m)) all_labels

@@ -1,152 +1,152 @@
 -- What is read off a point: its labels, its label bits, and a pilot's test. Assumes nothing.
-use mathlib.Core.Path.{_≡_, _∙_, refl, sym, ap, ap₂, subst}
-use mathlib.Core.Bool.{Bool, true, false, cond, _&&_}
+use mathlib.Core.Path.{◌≡◌, ◌∙◌, refl, sym, ap, ap₂, subst}
+use mathlib.Core.Bool.{Bool, true, false, cond, ◌&&◌}
 use mathlib.Core.List.{List}
-use Prim.Native.Nat.{ℕ, _+_, _-_, _^_, _<_, _≤_}
+use Prim.Native.Nat.{ℕ, ◌+◌, ◌-◌, ◌^◌, ◌<◌, ◌≤◌}
 use native.Mathlib.Omega.{arith}
 use borrow.Author.Tests.{lt-ltb, le-ltb}
 use lib.Dec.{T, eqb, ltb}
-use lib.ListN.{getD}
-use lib.IntN.{ℤ, pos, natAbs}
-use lib.Ieee.{Float, binary32, ofInt, toBits}
-use Rattle·laws.specs.Test.{among}
-use Rattle·laws.specs.Claim.{Claim, _is_, _under_, _and_, each, given, unless, Holds, sound}
-use Rattle·laws.specs.Filled.{Filled}
-use Rattle·laws.proofs.Filling.{fill-as, fill-end, fill-join}
-use Rattle·chain.specs.Plan.{bitCounts}
-use Rattle·chain.specs.Parser.{axisBits}
-use Rattle·mapper.specs.declared.point.Point.{Point}
-use Rattle·mapper.specs.Levels.{whole, levels}
-use Rattle·modulator.specs.Symbol.{turnedIf}
-use Rattle·modulator.specs.Asked.{pilotPoint}
-use Rattle·modulator.proofs.RunningLaws.{pilot-point-whole}
-use Rattle·demapper·specs.specs.declared.point.PointLabels.{PointLabels}
-use Rattle·demapper·specs.specs.Demapped.{sameBits, levelLabel, negatedLabel}
-use Rattle·demapper·specs.specs.Demapped.{firstLabel, secondLabel, secondLabels, dataGiven, bitOfLabel, pointBit}
-use Rattle·demapper·specs.specs.Asked.{PointTables, PointRead, DataHeard, pilotHeard}
-use Rattle·demapper·proofs.proofs.LabelLaws.{all-labels}
+use lib.ListN.{get_or}
+use lib.IntN.{ℤ, pos, nat_abs}
+use lib.Ieee.{Float, binary32, of_int, to_bits}
+use Rattle.laws.specs.Test.{among}
+use Rattle.laws.specs.Claim.{Claim, ◌is◌, ◌under◌, ◌and◌, each, given, unless, Holds, sound}
+use Rattle.laws.specs.Filled.{Filled}
+use Rattle.laws.proofs.Filling.{fill_as, fill_end, fill_join}
+use Rattle.chain.specs.Plan.{bit_counts}
+use Rattle.chain.specs.Parser.{axis_bits}
+use Rattle.mapper.specs.declared.point.Point.{Point}
+use Rattle.mapper.specs.Levels.{whole, levels}
+use Rattle.modulator.specs.Symbol.{turned_if}
+use Rattle.modulator.specs.Asked.{pilot_point}
+use Rattle.modulator.proofs.RunningLaws.{pilot_point_whole}
+use Rattle.demapper.specs.declared.point.PointLabels.{PointLabels}
+use Rattle.demapper.specs.Demapped.{same_bits, level_label, negated_label}
+use Rattle.demapper.specs.Demapped.{first_label, second_label, second_labels, data_given, bit_of_label, point_bit}
+use Rattle.demapper.specs.Asked.{PointTables, PointRead, DataHeard, pilot_heard}
+use Rattle.demapper.proofs.LabelLaws.{all_labels}
 
 -- zero's bits
-pub zero-bits : toBits binary32 (whole (pos 0)) ≡ 0
-unfolding ofInt toBits
-zero-bits = refl
+pub zero_bits : to_bits binary32 (whole (pos 0)) ≡ 0
+unfolding of_int to_bits
+zero_bits = refl
 
 -- the second label at B = 1: whether the level is 0
-pub second-one : (bits : ℕ) (t : Bool) (x y v : Float) (b : ℕ) (zero : Bool) → eqb bits 1 ≡ true → v ≡ cond t x y → b ≡ toBits binary32 v → eqb b 0 ≡ zero
-    → cond zero 0 1 ≡ secondLabel bits t x y
-second-one bits t x y v b zero one v-is told e =
-    let same : eqb (toBits binary32 (cond t x y)) (toBits binary32 (whole (pos 0))) ≡ zero =
-    ap₂ eqb (ap (toBits binary32) (sym v-is) ∙ sym told) zero-bits ∙ e in
+pub second_one : (bits : ℕ) (t : Bool) (x y v : Float) (b : ℕ) (zero : Bool) → eqb bits 1 ≡ true → v ≡ cond t x y → b ≡ to_bits binary32 v → eqb b 0 ≡ zero
+    → cond zero 0 1 ≡ second_label bits t x y
+second_one bits t x y v b zero one v-is told e =
+    let same : eqb (to_bits binary32 (cond t x y)) (to_bits binary32 (whole (pos 0))) ≡ zero =
+    ap₂ eqb (ap (to_bits binary32) (sym v-is) ∙ sym told) zero_bits ∙ e in
     simp (one, same)
 
 -- and else, by the turn
-pub second-two : (bits s : ℕ) (t : Bool) (x y : Float) (turned : Bool) (r : ℕ) → eqb bits 1 ≡ false → s ≡ axisBits bits → t ≡ turned
-    → r ≡ cond turned (negatedLabel s x) (levelLabel s y) → r ≡ secondLabel bits t x y
-second-two bits s t x y turned r two axis e g =
-    g ∙ ap₂ (λ (b : Bool) (k : ℕ). cond b (negatedLabel k x) (levelLabel k y)) (sym e) axis ∙ whole-way
+pub second_two : (bits s : ℕ) (t : Bool) (x y : Float) (turned : Bool) (r : ℕ) → eqb bits 1 ≡ false → s ≡ axis_bits bits → t ≡ turned
+    → r ≡ cond turned (negated_label s x) (level_label s y) → r ≡ second_label bits t x y
+second_two bits s t x y turned r two axis e g =
+    g ∙ ap₂ (λ (b : Bool) (k : ℕ). cond b (negated_label k x) (level_label k y)) (sym e) axis ∙ whole_way
   where
-    whole-way : cond t (negatedLabel (axisBits bits) x) (levelLabel (axisBits bits) y) ≡ secondLabel bits t x y
-    whole-way = simp two
+    whole_way : cond t (negated_label (axis_bits bits) x) (level_label (axis_bits bits) y) ≡ second_label bits t x y
+    whole_way = simp two
 
 module _ (bits s : ℕ) (levels labels : List ℕ) (tables : PointTables bits s levels labels) where
   -- all labels of an axis
-  pub all-axis : getD labels 0 0 ≡ 2 ^ axisBits bits
-  all-axis = all-labels s labels (tables .tables .axis) (tables .tables .labels-are) ∙ ap (λ (k : ℕ). 2 ^ k) (tables .axis-is)
+  pub all_axis : get_or labels 0 0 ≡ 2 ^ axis_bits bits
+  all_axis = all_labels s labels tables.tables.axis tables.tables.labels_are ∙ ap (λ (k : ℕ). 2 ^ k) tables.axis_is
 
   -- a point's labels as they are read
-  pub point-read : (t : Bool) (x y v : Float) (first second seconds : ℕ) → v ≡ cond t y x → first ≡ levelLabel s v → second ≡ secondLabel bits t x y
-      → seconds ≡ cond (eqb bits 1) 1 (getD labels 0 0)
-      → PointRead bits t x y (record { first = first; second = second; given = ltb first (getD labels 0 0) && ltb second seconds })
-  unfolding dataGiven
-  point-read t x y v first second seconds v-is e g n =
-      let f : first ≡ firstLabel bits t x y = e ∙ ap₂ levelLabel (tables .axis-is) v-is in
-      let m : seconds ≡ secondLabels bits = n ∙ ap (cond (eqb bits 1) 1) all-axis in
+  pub point_read : (t : Bool) (x y v : Float) (first second seconds : ℕ) → v ≡ cond t y x → first ≡ level_label s v → second ≡ second_label bits t x y
+      → seconds ≡ cond (eqb bits 1) 1 (get_or labels 0 0)
+      → PointRead bits t x y (record { first = first; second = second; given = ltb first (get_or labels 0 0) && ltb second seconds })
+  unfolding data_given
+  point_read t x y v first second seconds v-is e g n =
+      let f : first ≡ first_label bits t x y = e ∙ ap₂ level_label tables.axis_is v-is in
+      let m : seconds ≡ second_labels bits = n ∙ ap (cond (eqb bits 1) 1) all_axis in
       record {
         first = f;
         second = g;
-        given = ap₂ (λ (a b : Bool). a && b) (ap₂ ltb f all-axis) (ap₂ ltb g m);
+        given = ap₂ (λ (a b : Bool). a && b) (ap₂ ltb f all_axis) (ap₂ ltb g m);
       }
 
 -- the bits of an axis: one at B = 1, and else half of B
-abbrev axisClaim : Claim
-axisClaim = each bitCounts λ b. given b 1 (axisBits b is 1) and unless b 1 (axisBits b + axisBits b is b)
+abbrev axis_claim : Claim
+axis_claim = each bit_counts λ b. given b 1 (axis_bits b is 1) and unless b 1 (axis_bits b + axis_bits b is b)
 
-axes : Holds axisClaim
-unfolding axisBits
-axes = sound axisClaim tt
+axes : Holds axis_claim
+unfolding axis_bits
+axes = sound axis_claim tt
 
-pub axis-one : (bits : ℕ) → T (among bitCounts bits) → bits ≡ 1 → axisBits bits ≡ 1
-axis-one bits known e = axes bits known .0 e
+pub axis_one : (bits : ℕ) → T (among bit_counts bits) → bits ≡ 1 → axis_bits bits ≡ 1
+axis_one bits known e = (axes bits known).0 e
 
-pub axis-two : (bits : ℕ) → T (among bitCounts bits) → (bits ≡ 1 → ⊥) → axisBits bits + axisBits bits ≡ bits
-axis-two bits known n = axes bits known .1 n
+pub axis_two : (bits : ℕ) → T (among bit_counts bits) → (bits ≡ 1 → ⊥) → axis_bits bits + axis_bits bits ≡ bits
+axis_two bits known n = (axes bits known).1 n
 
 -- bit t of a point's label is one of its first level's label, and then of its second's
-pub first-bits : (bits : ℕ) (t : Bool) (x y : Float) (k : ℕ) → k < axisBits bits
-    → bitOfLabel (axisBits bits) (firstLabel bits t x y) k ≡ pointBit bits t x y k
-unfolding pointBit
-first-bits bits t x y k h = simp (lt-ltb k (axisBits bits) h)
+pub first_bits : (bits : ℕ) (t : Bool) (x y : Float) (k : ℕ) → k < axis_bits bits
+    → bit_of_label (axis_bits bits) (first_label bits t x y) k ≡ point_bit bits t x y k
+unfolding point_bit
+first_bits bits t x y k h = simp (lt-ltb k (axis_bits bits) h)
 
-pub second-bits : (bits : ℕ) (t : Bool) (x y : Float) (k : ℕ)
-    → bitOfLabel (axisBits bits) (secondLabel bits t x y) k ≡ pointBit bits t x y (axisBits bits + k)
-unfolding pointBit
-second-bits bits t x y k =
-    let back : axisBits bits + k - axisBits bits ≡ k = omega arith in
-    simp (le-ltb (axisBits bits + k) (axisBits bits) (omega arith), back)
+pub second_bits : (bits : ℕ) (t : Bool) (x y : Float) (k : ℕ)
+    → bit_of_label (axis_bits bits) (second_label bits t x y) k ≡ point_bit bits t x y (axis_bits bits + k)
+unfolding point_bit
+second_bits bits t x y k =
+    let back : axis_bits bits + k - axis_bits bits ≡ k = omega arith in
+    simp (le-ltb (axis_bits bits + k) (axis_bits bits) (omega arith), back)
 
-module _ (bits s : ℕ) (known : T (among bitCounts bits)) (axis : s ≡ axisBits bits) (t : Bool) (x y : Float) (at : ℕ) where
+module _ (bits s : ℕ) (known : T (among bit_counts bits)) (axis : s ≡ axis_bits bits) (t : Bool) (x y : Float) (at : ℕ) where
   -- the first label's bits stored
-  first-put : (first : ℕ) (d₀ d : List ℕ) → first ≡ firstLabel bits t x y → Filled 0 at (bitOfLabel s first) s d₀ d
-      → Filled 0 at (pointBit bits t x y) (axisBits bits) d₀ d
-  first-put first d₀ d e p =
-      fill-end 0 at (pointBit bits t x y) axis
-      (fill-as 0 at (bitOfLabel s first) (pointBit bits t x y) s d₀ d
-      (λ k h. ap₂ (λ (a l : ℕ). bitOfLabel a l k) axis e ∙ first-bits bits t x y k (subst (λ (m : ℕ). k < m) axis h)) p)
+  first_put : (first : ℕ) (d₀ d : List ℕ) → first ≡ first_label bits t x y → Filled 0 at (bit_of_label s first) s d₀ d
+      → Filled 0 at (point_bit bits t x y) (axis_bits bits) d₀ d
+  first_put first d₀ d e p =
+      fill_end 0 at (point_bit bits t x y) axis
+      (fill_as 0 at (bit_of_label s first) (point_bit bits t x y) s d₀ d
+      (λ k h. ap₂ (λ (a l : ℕ). bit_of_label a l k) axis e ∙ first_bits bits t x y k (subst (λ (m : ℕ). k < m) axis h)) p)
 
   -- at B = 1 they are all
-  pub data-one : (read : PointLabels) (d₀ d : List ℕ) → PointRead bits t x y read → bits ≡ 1
-      → Filled 0 at (bitOfLabel s (read .first)) s d₀ d → DataHeard bits t x y at (read .given) d₀ d
-  data-one read d₀ d r one p = record {
-    given = r .given;
-    label = fill-end 0 at (pointBit bits t x y) (axis-one bits known one ∙ sym one) (first-put (read .first) d₀ d (r .first) p);
+  pub data_one : (read : PointLabels) (d₀ d : List ℕ) → PointRead bits t x y read → bits ≡ 1
+      → Filled 0 at (bit_of_label s read.first) s d₀ d → DataHeard bits t x y at read.given d₀ d
+  data_one read d₀ d r one p = record {
+    given = r.given;
+    label = fill_end 0 at (point_bit bits t x y) (axis_one bits known one ∙ sym one) (first_put read.first d₀ d r.first p);
   }
 
   -- and else the second label's follow
-  pub data-two : (read : PointLabels) (d₀ d d′ : List ℕ) → PointRead bits t x y read → (bits ≡ 1 → ⊥)
-      → Filled 0 at (bitOfLabel s (read .first)) s d₀ d → Filled 0 (at + s) (bitOfLabel s (read .second)) s d d′
-      → DataHeard bits t x y at (read .given) d₀ d′
-  data-two read d₀ d d′ r two p q =
-      let q′ : Filled 0 (at + axisBits bits) (bitOfLabel (axisBits bits) (read .second)) (axisBits bits) d d′ =
-      subst (λ (k : ℕ). Filled 0 (at + k) (bitOfLabel k (read .second)) k d d′) axis q in
+  pub data_two : (read : PointLabels) (d₀ d d' : List ℕ) → PointRead bits t x y read → (bits ≡ 1 → ⊥)
+      → Filled 0 at (bit_of_label s read.first) s d₀ d → Filled 0 (at + s) (bit_of_label s read.second) s d d'
+      → DataHeard bits t x y at read.given d₀ d'
+  data_two read d₀ d d' r two p q =
+      let q' : Filled 0 (at + axis_bits bits) (bit_of_label (axis_bits bits) read.second) (axis_bits bits) d d' =
+      subst (λ (k : ℕ). Filled 0 (at + k) (bit_of_label k read.second) k d d') axis q in
       record {
-        given = r .given;
-        label = fill-end 0 at (pointBit bits t x y) (axis-two bits known two)
-            (fill-join 0 at (pointBit bits t x y) (axisBits bits) (axisBits bits) d₀ d d′ (first-put (read .first) d₀ d (r .first) p)
-            (fill-as 0 (at + axisBits bits) (bitOfLabel (axisBits bits) (read .second)) (λ k. pointBit bits t x y (axisBits bits + k)) (axisBits bits) d d′
-            (λ k h. ap (λ (l : ℕ). bitOfLabel (axisBits bits) l k) (r .second) ∙ second-bits bits t x y k) q′));
+        given = r.given;
+        label = fill_end 0 at (point_bit bits t x y) (axis_two bits known two)
+            (fill_join 0 at (point_bit bits t x y) (axis_bits bits) (axis_bits bits) d₀ d d' (first_put read.first d₀ d r.first p)
+            (fill_as 0 (at + axis_bits bits) (bit_of_label (axis_bits bits) read.second) (λ k. point_bit bits t x y (axis_bits bits + k)) (axis_bits bits) d d'
+            (λ k h. ap (λ (l : ℕ). bit_of_label (axis_bits bits) l k) r.second ∙ second_bits bits t x y k) q'));
       }
 
 -- a pilot's test by the bits of its point
-pub pilot-by : (sign : Float) (t : Bool) (x y : Float) (p : Point) (a a′ b b′ : ℕ) → p ≡ pilotPoint sign t
-    → a ≡ toBits binary32 x → a′ ≡ toBits binary32 (p .first) → b ≡ toBits binary32 y → b′ ≡ toBits binary32 (p .second)
-    → (eqb a a′ && eqb b b′) ≡ pilotHeard sign t x y
-pilot-by sign t x y p a a′ b b′ pilot e e′ g g′ =
+pub pilot_by : (sign : Float) (t : Bool) (x y : Float) (p : Point) (a a' b b' : ℕ) → p ≡ pilot_point sign t
+    → a ≡ to_bits binary32 x → a' ≡ to_bits binary32 p.first → b ≡ to_bits binary32 y → b' ≡ to_bits binary32 p.second
+    → (eqb a a' && eqb b b') ≡ pilot_heard sign t x y
+pilot_by sign t x y p a a' b b' pilot e e' g g' =
     ap₂ (λ (u v : Bool). u && v)
-    (ap₂ eqb e (e′ ∙ ap (λ (q : Point). toBits binary32 (q .first)) pilot))
-    (ap₂ eqb g (g′ ∙ ap (λ (q : Point). toBits binary32 (q .second)) pilot))
+    (ap₂ eqb e (e' ∙ ap (λ (q : Point). to_bits binary32 q.first) pilot))
+    (ap₂ eqb g (g' ∙ ap (λ (q : Point). to_bits binary32 q.second) pilot))
 
 -- where its sign is the float of a small whole number
-pub pilot-heard : (sign : Float) (t : Bool) (x y : Float) (s : ℤ) → natAbs s < 8 → sign ≡ whole s
-    → let l = turnedIf t (levels s (pos 0)) in
-    pilotHeard sign t x y ≡ (sameBits x (whole (l .first)) && sameBits y (whole (l .second)))
-pilot-heard sign t x y s small e = ap (λ (p : Point). sameBits x (p .first) && sameBits y (p .second)) (pilot-point-whole sign t s small e)
+pub pilot_heard_lem : (sign : Float) (t : Bool) (x y : Float) (s : ℤ) → nat_abs s < 8 → sign ≡ whole s
+    → let l = turned_if t (levels s (pos 0)) in
+    pilot_heard sign t x y ≡ (same_bits x (whole l.first) && same_bits y (whole l.second))
+pilot_heard_lem sign t x y s small e = ap (λ (p : Point). same_bits x p.first && same_bits y p.second) (pilot_point_whole sign t s small e)
 
-abbrev roomClaim : Claim
-roomClaim = each bitCounts λ b. axisBits b under b + 1 and axisBits b under 4
+abbrev room_claim : Claim
+room_claim = each bit_counts λ b. axis_bits b under b + 1 and axis_bits b under 4
 
-room : Holds roomClaim
-unfolding axisBits
-room = sound roomClaim tt
+room : Holds room_claim
+unfolding axis_bits
+room = sound room_claim tt
 
 -- the bits of one axis are few, and at most the point's; two axes' are the point's where it has two labels
 pub record AxisRoom (bits s : ℕ) : Type 0 where
@@ -154,9 +154,9 @@ pub record AxisRoom (bits s : ℕ) : Type 0 where
   pub one : s ≤ bits
   pub two : (bits ≡ 1 → ⊥) → s + s ≡ bits
 
-pub axis-room : (bits s : ℕ) → T (among bitCounts bits) → s ≡ axisBits bits → AxisRoom bits s
-axis-room bits s known e = record {
-  few = omega (arith, e, room bits known .1);
-  one = omega (arith, e, room bits known .0);
-  two = λ n. ap₂ (λ (a b : ℕ). a + b) e e ∙ axis-two bits known n;
+pub axis_room : (bits s : ℕ) → T (among bit_counts bits) → s ≡ axis_bits bits → AxisRoom bits s
+axis_room bits s known e = record {
+  few = omega (arith, e, (room bits known).1);
+  one = omega (arith, e, (room bits known).0);
+  two = λ n. ap₂ (λ (a b : ℕ). a + b) e e ∙ axis_two bits known n;
 }

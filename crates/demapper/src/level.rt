@@ -1,16 +1,15 @@
 // A level's label from its float, by bits alone: a NaN, an infinity and -0 are no level.
-ghost use mathlib.Core.Path.{_≡_};
-ghost use Prim.Native.Nat.{_<_};
-ghost use lib.Dec.{T};
-ghost use lib.Ieee.{binary32, toBits};
-ghost use Rattle·laws.specs.Test.{among};
-ghost use Rattle·chain.specs.Plan.{axisCounts};
-ghost use Rattle·demapper·specs.specs.Demapped.{levelLabel, negatedLabel};
-ghost use Rattle·demapper·specs.specs.Asked.{keyOf, levelKeys, oneBitKeys, twoBitKeys, threeBitKeys, labelKeys, Tables, flipped};
+ghost use Rattle.std.specs.Prelude.{◌≡◌, ◌<◌, T};
+ghost use Rattle.std.specs.Float.{binary32};
+ghost use Rattle.std.specs.Float.Ieee.{to_bits};
+ghost use Rattle.laws.specs.Test.{among};
+ghost use Rattle.chain.specs.Plan.{axis_counts};
+ghost use Rattle.demapper.specs.Demapped.{level_label, negated_label};
+ghost use Rattle.demapper.specs.Asked.{key_of, level_keys, one_bit_keys, two_bit_keys, three_bit_keys, label_keys, Tables, flipped};
 
 // The bits of a float. A machine's NaN has one of many patterns: here it is one, which no level has.
 pub fn bits_of(x: f32) -> u32
-    ensures { λ r. ⌜ r ≡ toBits binary32 x ⌝ }
+    ensures { result ≡ to_bits binary32 x }
 {
     if x != x {
         return 0x7fc00000;
@@ -20,7 +19,7 @@ pub fn bits_of(x: f32) -> u32
 
 // The bit patterns of 1, 3, 5, 7 and of their negatives, each at its key.
 pub fn level_keys() -> [u32; 32]
-    ensures { λ r. ⌜ r ≡ levelKeys ⌝ }
+    ensures { result ≡ level_keys }
 {
     let mut keys: [u32; 32] = [0; 32];
     keys[12] = 0x3f800000;
@@ -36,7 +35,7 @@ pub fn level_keys() -> [u32; 32]
 
 // The labels of one bit, of two and of three, each at its level's key.
 fn one_bit_keys() -> [u8; 32]
-    ensures { λ r. ⌜ r ≡ oneBitKeys ⌝ }
+    ensures { result ≡ one_bit_keys }
 {
     let mut keys: [u8; 32] = [2; 32];
     keys[28] = 0;
@@ -45,7 +44,7 @@ fn one_bit_keys() -> [u8; 32]
 }
 
 fn two_bit_keys() -> [u8; 32]
-    ensures { λ r. ⌜ r ≡ twoBitKeys ⌝ }
+    ensures { result ≡ two_bit_keys }
 {
     let mut keys: [u8; 32] = [4; 32];
     keys[18] = 0b00;
@@ -56,7 +55,7 @@ fn two_bit_keys() -> [u8; 32]
 }
 
 fn three_bit_keys() -> [u8; 32]
-    ensures { λ r. ⌜ r ≡ threeBitKeys ⌝ }
+    ensures { result ≡ three_bit_keys }
 {
     let mut keys: [u8; 32] = [8; 32];
     keys[23] = 0b000;
@@ -72,7 +71,7 @@ fn three_bit_keys() -> [u8; 32]
 
 // The labels of s bits, each at its level's key.
 pub fn label_keys(s: usize) -> [u8; 32]
-    ensures { λ r. ⌜ r ≡ labelKeys s ⌝ }
+    ensures { result ≡ label_keys s }
 {
     let three_bits = s == 3;
     if three_bits {
@@ -87,15 +86,15 @@ pub fn label_keys(s: usize) -> [u8; 32]
 
 // Where in the tables a bit pattern is looked up.
 fn key_of(pattern: u32) -> usize
-    ensures { λ r. ⌜ (r ≡ keyOf pattern) × (r < 32) ⌝ }
+    ensures { (result ≡ key_of pattern) × (result < 32) }
 {
     (pattern / 0x200000 % 16 + 16 * (pattern / 0x80000000)) as usize
 }
 
 // The label of s bits whose level is x; 2^s where none is. No branch goes by the data.
 pub fn level_label(levels: &[u32], labels: &[u8], s: usize, x: f32) -> u8
-    requires { ⌜ Tables s (now levels) (now labels) ⌝ }
-    ensures { λ r. ⌜ r ≡ levelLabel s x ⌝ }
+    requires { Tables s levels.now labels.now }
+    ensures { result ≡ level_label s x }
 {
     let pattern = bits_of(x);
     let k = key_of(pattern);
@@ -108,16 +107,16 @@ pub fn level_label(levels: &[u32], labels: &[u8], s: usize, x: f32) -> u8
 
 // The label of s bits whose level is the negative of x; 2^s where none is.
 pub fn negated_label(levels: &[u32], labels: &[u8], s: usize, x: f32) -> u8
-    requires { ⌜ Tables s (now levels) (now labels) ⌝ }
-    ensures { λ r. ⌜ r ≡ negatedLabel s x ⌝ }
+    requires { Tables s levels.now labels.now }
+    ensures { result ≡ negated_label s x }
 {
     flip(labels, s, level_label(levels, labels, s, x))
 }
 
 // A label with its first bit flipped.
 fn flip(labels: &[u8], s: usize, label: u8) -> u8
-    requires { ⌜ T (among axisCounts s) × ((now labels) ≡ labelKeys s) ⌝ }
-    ensures { λ r. ⌜ r ≡ flipped s label ⌝ }
+    requires { T (among axis_counts s) × (labels.now ≡ label_keys s) }
+    ensures { result ≡ flipped s label }
 {
     let all = labels[0];
     let half = all / 2;

@@ -1,18 +1,14 @@
 // A point's two labels from its two floats, its label bits, and the test of a pilot.
-use crate::level::bits_of;
-use crate::level::level_label;
-use crate::level::negated_label;
+ghost use Rattle.std.specs.Prelude.{◌≡◌, cond, ◌+◌, ◌≤◌, eqb, length};
+ghost use Rattle.laws.specs.Filled.{Filled};
+ghost use Rattle.demapper.specs.Demapped.{bit_of_label, second_label};
+ghost use Rattle.demapper.specs.Asked.{PointTables, PointRead, DataHeard, pilot_heard};
+
+use crate::level::{bits_of, level_label, negated_label};
 use modulator::symbol::pilot_point;
-ghost use mathlib.Core.Path.{_≡_};
-ghost use mathlib.Core.Bool.{cond};
-ghost use Prim.Native.Nat.{_+_, _≤_};
-ghost use lib.Dec.{eqb};
-ghost use lib.ListN.{length};
-ghost use Rattle·laws.specs.Filled.{Filled};
-ghost use Rattle·demapper·specs.specs.Demapped.{bitOfLabel, secondLabel};
-ghost use Rattle·demapper·specs.specs.Asked.{PointTables, PointRead, DataHeard, pilotHeard};
 
 // The labels of a point's levels, and whether it is a point of the constellation.
+#[derive(Drop)]
 pub struct PointLabels {
     pub first: u8,
     pub second: u8,
@@ -21,7 +17,7 @@ pub struct PointLabels {
 
 // One of two floats.
 fn either(turned: bool, a: f32, b: f32) -> f32
-    ensures { λ r. ⌜ r ≡ cond turned a b ⌝ }
+    ensures { result ≡ cond turned a b }
 {
     if turned { a } else { b }
 }
@@ -36,8 +32,8 @@ fn second_label(
     x: f32,
     y: f32,
 ) -> u8
-    requires { ⌜ PointTables bits s (now levels) (now labels) ⌝ }
-    ensures { λ r. ⌜ r ≡ secondLabel bits turned x y ⌝ }
+    requires { PointTables bits s levels.now labels.now }
+    ensures { result ≡ second_label bits turned x y }
 {
     let one_level = bits == 1;
     if one_level {
@@ -52,7 +48,7 @@ fn second_label(
 
 // How many labels a second level has: one at B = 1.
 fn seconds(all: u8, bits: usize) -> u8
-    ensures { λ r. ⌜ r ≡ cond (eqb bits 1) 1 all ⌝ }
+    ensures { result ≡ cond (eqb bits 1) 1 all }
 {
     let one_level = bits == 1;
     if one_level { 1 } else { all }
@@ -68,8 +64,8 @@ fn point_labels(
     x: f32,
     y: f32,
 ) -> PointLabels
-    requires { ⌜ PointTables bits s (now levels) (now labels) ⌝ }
-    ensures { λ r. ⌜ PointRead bits turned x y r ⌝ }
+    requires { PointTables bits s levels.now labels.now }
+    ensures { PointRead bits turned x y result }
 {
     let first = level_label(levels, labels, s, either(turned, y, x));
     let second = second_label(levels, labels, bits, s, turned, x, y);
@@ -84,8 +80,8 @@ fn point_labels(
 
 // The bits of a label, the first the highest.
 fn put_label(out: &mut [u8], at: usize, s: usize, label: u8)
-    requires { ⌜ (s ≤ 3) × (at + s ≤ length (now out)) ⌝ }
-    ensures { λ _. ⌜ Filled 0 at (bitOfLabel s label) s (now (out .entry)) (now (out .exit)) ⌝ }
+    requires { (s ≤ 3) × (at + s ≤ length out.old) }
+    ensures { Filled 0 at (bit_of_label s label) s out.old out.new }
 {
     let mut t: usize = 0;
     while t < s {
@@ -106,8 +102,8 @@ pub fn hear_data(
     x: f32,
     y: f32,
 ) -> bool
-    requires { ⌜ PointTables bits s (now levels) (now labels) × (at + bits ≤ length (now out)) ⌝ }
-    ensures { λ r. ⌜ DataHeard bits turned x y at r (now (out .entry)) (now (out .exit)) ⌝ }
+    requires { PointTables bits s levels.now labels.now × (at + bits ≤ length out.old) }
+    ensures { DataHeard bits turned x y at result out.old out.new }
 {
     let p = point_labels(levels, labels, bits, s, turned, x, y);
     put_label(out, at, s, p.first);
@@ -120,7 +116,7 @@ pub fn hear_data(
 
 // Whether (x, y) is the one point that a pilot of this sign has.
 pub fn hear_pilot(sign: f32, turned: bool, x: f32, y: f32) -> bool
-    ensures { λ r. ⌜ r ≡ pilotHeard sign turned x y ⌝ }
+    ensures { result ≡ pilot_heard sign turned x y }
 {
     let p = pilot_point(sign, turned);
     (bits_of(x) == bits_of(p.first)) & (bits_of(y) == bits_of(p.second))

@@ -1,22 +1,17 @@
 // The points of a symbol, stream by stream: label bits, and the first point that fails.
+ghost use Rattle.std.specs.Prelude.{◌≡◌, ◌&&◌, eqb, leb};
+ghost use Rattle.detector.specs.Detected.{search_of};
+ghost use Rattle.detector.specs.Asked.{HearPlaceAsked, PlaceGiven, PlaceHeard, SymbolBitsAsked, BitsShown};
+
 use crate::uses::uses_of;
-use chain::plan::Plan;
-use chain::plan::axis_bits;
-use demapper::level::label_keys;
-use demapper::level::level_keys;
-use demapper::point::hear_data;
-use demapper::point::hear_pilot;
-use pilots::pilot::pilot_sign;
-use pilots::pilot::polarity_bit;
-use subcarriers::layout::entry_index;
-use subcarriers::layout::places_of;
-ghost use mathlib.Core.Path.{_≡_};
-ghost use mathlib.Core.Bool.{_&&_};
-ghost use lib.Dec.{eqb, leb};
-ghost use Rattle·detector·specs.specs.Detected.{searchOf};
-ghost use Rattle·detector·specs.specs.Asked.{HearPlaceAsked, PlaceGiven, PlaceHeard, SymbolBitsAsked, BitsShown};
+use chain::plan::{Plan, axis_bits};
+use demapper::level::{label_keys, level_keys};
+use demapper::point::{hear_data, hear_pilot};
+use pilots::pilot::{pilot_sign, polarity_bit};
+use subcarriers::layout::{entry_index, places_of};
 
 // Every point is one the rules give, or the first that is not: its stream and its place among the used subcarriers.
+#[derive(Drop)]
 pub enum Search {
     AllGiven,
     At(usize, usize),
@@ -24,7 +19,7 @@ pub enum Search {
 
 // Whether place f is above 0 at 40 MHz.
 fn is_turned(width: usize, f: usize) -> bool
-    ensures { λ r. ⌜ r ≡ (eqb width 40 && leb 57 f) ⌝ }
+    ensures { result ≡ (eqb width 40 && leb 57 f) }
 {
     (width == 40) & (f >= 57)
 }
@@ -43,8 +38,8 @@ fn hear_place(
     i: usize,
     f: usize,
 ) -> bool
-    requires { ⌜ HearPlaceAsked (now bits) (now points) (now levels) (now labels) (now uses) plan s polarity n i f ⌝ }
-    ensures { λ r. ⌜ PlaceGiven plan (now (points .entry)) polarity n i f r × PlaceHeard plan (now (points .entry)) i f (now (bits .entry)) (now (bits .exit)) ⌝ }
+    requires { HearPlaceAsked bits.old points.now levels.now labels.now uses.now plan s polarity n i f }
+    ensures { PlaceGiven plan points.now polarity n i f result × PlaceHeard plan points.now i f bits.old bits.new }
 {
     let floats = 2 * places_of(plan.width);
     let at = i * floats + 2 * f;
@@ -62,9 +57,9 @@ fn hear_place(
 
 // The label bits of all streams, stream i's block from i·block on, or the first point that is none the rules give.
 pub fn symbol_bits(bits: &mut [u8], points: &[f32], plan: Plan, format: usize, n: usize) -> Search
-    requires { ⌜ SymbolBitsAsked (now bits) (now points) plan n ⌝ }
-    ensures { λ r. ⌜ r ≡ searchOf plan (now (points .entry)) format n ⌝ }
-    ensures { λ r. ⌜ BitsShown plan (now (points .entry)) r (now (bits .entry)) (now (bits .exit)) ⌝ }
+    requires { SymbolBitsAsked bits.old points.now plan n }
+    ensures value { result ≡ search_of plan points.now format n }
+    ensures bits_shown { BitsShown plan points.now result bits.old bits.new }
 {
     let s = axis_bits(plan.bits);
     let levels = level_keys();
@@ -81,17 +76,7 @@ pub fn symbol_bits(bits: &mut [u8], points: &[f32], plan: Plan, format: usize, n
         let mut f: usize = 0;
         while f < places {
             if hear_place(
-                bits,
-                points,
-                &levels,
-                &labels,
-                &uses,
-                plan,
-                s,
-                polarity,
-                n,
-                i,
-                f,
+                bits, points, &levels, &labels, &uses, plan, s, polarity, n, i, f,
             ) {} else {
                 break 'streams Search::At(i, f);
             }

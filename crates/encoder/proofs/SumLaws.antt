@@ -1,63 +1,63 @@
 -- The sums made by xor are the sums modulo 2, and both calls leave sums A and B. Assumes nothing.
-use mathlib.Core.Path.{_≡_, _∙_, ap}
+use mathlib.Core.Path.{◌≡◌, ◌∙◌, ap}
 use mathlib.Core.List.{List}
-use Prim.Native.Nat.{ℕ, _+_, _*_, _%_, _<_, _≤_}
+use Prim.Native.Nat.{ℕ, ◌+◌, ◌*◌, ◌%◌, ◌<◌, ◌≤◌}
 use native.Mathlib.Omega.{arith}
 use lib.Dec.{lit≤}
-use lib.Bits.{bitXor}
-use Rattle·laws.specs.Claim.{Claim, _is_, upTo, Holds, sound}
-use Rattle·laws.specs.Filled.{Filled}
-use Rattle·laws.proofs.Filling.{fill-at}
-use Rattle·chain.specs.Encoder.{sumA, sumB, lineTap}
-use Rattle·chain.proofs.Window.{tap-at}
-use Rattle·encoder·specs.specs.Sums.{xorA, xorB, Sums}
+use lib.Bits.{bit_xor}
+use Rattle.laws.specs.Claim.{Claim, ◌is◌, up_to, Holds, sound}
+use Rattle.laws.specs.Filled.{Filled}
+use Rattle.laws.proofs.Filling.{fill_at}
+use Rattle.chain.specs.Encoder.{sum_a, sum_b, line_tap}
+use Rattle.chain.proofs.Window.{tap_at}
+use Rattle.encoder.specs.Sums.{xor_a, xor_b, Sums}
 
 -- the xor of five bits is their sum modulo 2
-abbrev fiveClaim : Claim
-fiveClaim = upTo 2 λ a. upTo 2 λ b. upTo 2 λ c. upTo 2 λ d. upTo 2 λ e.
-    bitXor (bitXor (bitXor (bitXor a b) c) d) e is (a + b + c + d + e) % 2
+abbrev five_claim : Claim
+five_claim = up_to 2 λ a. up_to 2 λ b. up_to 2 λ c. up_to 2 λ d. up_to 2 λ e.
+    bit_xor (bit_xor (bit_xor (bit_xor a b) c) d) e is (a + b + c + d + e) % 2
 
-five : Holds fiveClaim
-five = sound fiveClaim tt
+five : Holds five_claim
+five = sound five_claim tt
 
-module _ (line : ℕ → ℕ) (e j t : ℕ) (bits : (k : ℕ) → k ≤ 6 → lineTap line e j t k < 2) where
+module _ (line : ℕ → ℕ) (e j t : ℕ) (bits : (k : ℕ) → k ≤ 6 → line_tap line e j t k < 2) where
   -- the inputs of a step's sums, where the code reads them
-  back-0 : line (e * t + j + 6 * e) ≡ lineTap line e j t 0
-  back-0 = ap line (omega (arith, tap-at e t j 0 (lit≤ tt)))
+  back_0 : line (e * t + j + 6 * e) ≡ line_tap line e j t 0
+  back_0 = ap line (omega (arith, tap_at e t j 0 (lit≤ tt)))
 
-  back-1 : line (e * t + j + 5 * e) ≡ lineTap line e j t 1
-  back-1 = ap line (omega (arith, tap-at e t j 1 (lit≤ tt)))
+  back_1 : line (e * t + j + 5 * e) ≡ line_tap line e j t 1
+  back_1 = ap line (omega (arith, tap_at e t j 1 (lit≤ tt)))
 
-  back-2 : line (e * t + j + 4 * e) ≡ lineTap line e j t 2
-  back-2 = ap line (omega (arith, tap-at e t j 2 (lit≤ tt)))
+  back_2 : line (e * t + j + 4 * e) ≡ line_tap line e j t 2
+  back_2 = ap line (omega (arith, tap_at e t j 2 (lit≤ tt)))
 
-  back-3 : line (e * t + j + 3 * e) ≡ lineTap line e j t 3
-  back-3 = ap line (omega (arith, tap-at e t j 3 (lit≤ tt)))
+  back_3 : line (e * t + j + 3 * e) ≡ line_tap line e j t 3
+  back_3 = ap line (omega (arith, tap_at e t j 3 (lit≤ tt)))
 
-  back-5 : line (e * t + j + e) ≡ lineTap line e j t 5
-  back-5 = ap line (omega (arith, tap-at e t j 5 (lit≤ tt)))
+  back_5 : line (e * t + j + e) ≡ line_tap line e j t 5
+  back_5 = ap line (omega (arith, tap_at e t j 5 (lit≤ tt)))
 
-  back-6 : line (e * t + j) ≡ lineTap line e j t 6
-  back-6 = ap line (omega (arith, tap-at e t j 6 (lit≤ tt)))
+  back_6 : line (e * t + j) ≡ line_tap line e j t 6
+  back_6 = ap line (omega (arith, tap_at e t j 6 (lit≤ tt)))
 
   -- off a line of bits, the xor is sum A
-  pub xor-a : xorA line e (e * t + j) ≡ sumA (lineTap line e j t)
-  xor-a =
-      rw (back-0, back-2, back-3, back-5, back-6)
+  pub xor_a_lem : xor_a line e (e * t + j) ≡ sum_a (line_tap line e j t)
+  xor_a_lem =
+      rw (back_0, back_2, back_3, back_5, back_6)
       (five _ (bits 0 (lit≤ tt)) _ (bits 2 (lit≤ tt)) _ (bits 3 (lit≤ tt)) _ (bits 5 (lit≤ tt)) _ (bits 6 (lit≤ tt)))
 
   -- off a line of bits, the xor is sum B
-  pub xor-b : xorB line e (e * t + j) ≡ sumB (lineTap line e j t)
-  xor-b =
-      rw (back-0, back-1, back-2, back-3, back-6)
+  pub xor_b_lem : xor_b line e (e * t + j) ≡ sum_b (line_tap line e j t)
+  xor_b_lem =
+      rw (back_0, back_1, back_2, back_3, back_6)
       (five _ (bits 0 (lit≤ tt)) _ (bits 1 (lit≤ tt)) _ (bits 2 (lit≤ tt)) _ (bits 3 (lit≤ tt)) _ (bits 6 (lit≤ tt)))
 
 -- sums A and then sums B, where the second call leaves the first's
 pub both : {line : ℕ → ℕ} {e n : ℕ} {d d₁ d₂ : List ℕ} → n ≤ 2160
-    → Filled 0 0 (λ j. xorA line e j) n d d₁ → Filled 0 2160 (λ j. xorB line e j) n d₁ d₂ → Sums line e n d d₂
+    → Filled 0 0 (λ j. xor_a line e j) n d d₁ → Filled 0 2160 (λ j. xor_b line e j) n d₁ d₂ → Sums line e n d d₂
 both {line} {e} few a b =
     record {
-      same = b .same ∙ a .same;
-      a-done = λ j l. b .before j (omega arith) ∙ fill-at 0 (λ j. xorA line e j) a j l;
-      b-done = b .done;
+      same = b.same ∙ a.same;
+      a_done = λ j l. b.before j (omega arith) ∙ fill_at 0 (λ j. xor_a line e j) a j l;
+      b_done = b.done;
     }

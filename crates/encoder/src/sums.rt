@@ -1,14 +1,12 @@
 // Both sums of every encoder step, off a line that has the encoders' histories before the inputs. The line is shared by the encoders in turn,
 // so that the taps stand NES times their distance apart.
-ghost use mathlib.Core.Path.{_≡_};
-ghost use Prim.Native.Nat.{_+_, _*_, _<_, _≤_};
-ghost use lib.ListN.{length, getD};
-ghost use Rattle·laws.specs.Filled.{Filled};
-ghost use Rattle·encoder·specs.specs.Sums.{xorA, xorB, SumsAsked, Sums};
+ghost use Rattle.std.specs.Prelude.{◌≡◌, ◌+◌, ◌*◌, ◌<◌, ◌≤◌, length, get_or};
+ghost use Rattle.laws.specs.Filled.{Filled};
+ghost use Rattle.encoder.specs.Sums.{xor_a, xor_b, SumsAsked, Sums};
 
 fn sum_a(line: &[u8], encoders: usize, j: usize) -> u8
-    requires { ⌜ (j + 6 * encoders < length (now line)) × (encoders ≤ 2) × (j < 2160) ⌝ }
-    ensures { λ r. ⌜ r ≡ xorA (λ e. getD (now (line .entry)) e 0) encoders j ⌝ }
+    requires { (j + 6 * encoders < length line.now) × (encoders ≤ 2) × (j < 2160) }
+    ensures { result ≡ xor_a (λ e. get_or line.now e 0) encoders j }
 {
     line[j + 6 * encoders]
         ^ line[j + 4 * encoders]
@@ -18,8 +16,8 @@ fn sum_a(line: &[u8], encoders: usize, j: usize) -> u8
 }
 
 fn sum_b(line: &[u8], encoders: usize, j: usize) -> u8
-    requires { ⌜ (j + 6 * encoders < length (now line)) × (encoders ≤ 2) × (j < 2160) ⌝ }
-    ensures { λ r. ⌜ r ≡ xorB (λ e. getD (now (line .entry)) e 0) encoders j ⌝ }
+    requires { (j + 6 * encoders < length line.now) × (encoders ≤ 2) × (j < 2160) }
+    ensures { result ≡ xor_b (λ e. get_or line.now e 0) encoders j }
 {
     line[j + 6 * encoders]
         ^ line[j + 5 * encoders]
@@ -29,8 +27,8 @@ fn sum_b(line: &[u8], encoders: usize, j: usize) -> u8
 }
 
 fn sums_a(sums: &mut [u8], line: &[u8], encoders: usize, count: usize)
-    requires { ⌜ SumsAsked (now sums) (now line) encoders count ⌝ }
-    ensures { λ _. ⌜ Filled 0 0 (λ j. xorA (λ e. getD (now (line .entry)) e 0) encoders j) count (now (sums .entry)) (now (sums .exit)) ⌝ }
+    requires { SumsAsked sums.old line.now encoders count }
+    ensures { Filled 0 0 (λ j. xor_a (λ e. get_or line.now e 0) encoders j) count sums.old sums.new }
 {
     let mut j: usize = 0;
     while j < count {
@@ -40,8 +38,8 @@ fn sums_a(sums: &mut [u8], line: &[u8], encoders: usize, count: usize)
 }
 
 fn sums_b(sums: &mut [u8], line: &[u8], encoders: usize, count: usize)
-    requires { ⌜ SumsAsked (now sums) (now line) encoders count ⌝ }
-    ensures { λ _. ⌜ Filled 0 2160 (λ j. xorB (λ e. getD (now (line .entry)) e 0) encoders j) count (now (sums .entry)) (now (sums .exit)) ⌝ }
+    requires { SumsAsked sums.old line.now encoders count }
+    ensures { Filled 0 2160 (λ j. xor_b (λ e. get_or line.now e 0) encoders j) count sums.old sums.new }
 {
     let mut j: usize = 0;
     while j < count {
@@ -52,8 +50,8 @@ fn sums_b(sums: &mut [u8], line: &[u8], encoders: usize, count: usize)
 
 // Sum A of input j stands at j, sum B at 2160 + j.
 pub fn both_sums(sums: &mut [u8], line: &[u8], encoders: usize, count: usize)
-    requires { ⌜ SumsAsked (now sums) (now line) encoders count ⌝ }
-    ensures { λ _. ⌜ Sums (λ e. getD (now (line .entry)) e 0) encoders count (now (sums .entry)) (now (sums .exit)) ⌝ }
+    requires { SumsAsked sums.old line.now encoders count }
+    ensures { Sums (λ e. get_or line.now e 0) encoders count sums.old sums.new }
 {
     sums_a(sums, line, encoders, count);
     sums_b(sums, line, encoders, count);

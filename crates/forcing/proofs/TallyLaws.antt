@@ -1,63 +1,63 @@
 -- The count of wrong first bits, group by group.
 -- Assumes nothing.
-use mathlib.Core.Path.{_≡_, _∙_, refl, sym, ap, ap₂, subst}
-use mathlib.Core.Logic.{⊎-elim}
-use Prim.Native.Nat.{ℕ, _+_, _-_, _*_, _%_, _<_, _≤_}
-use native.Mathlib.Nat.{not-suc-le-zero, eq-or-lt-of-le, mul-comm}
+use mathlib.Core.Path.{◌≡◌, ◌∙◌, refl, sym, ap, ap₂, subst}
+use mathlib.Core.Logic.{⊎_elim}
+use Prim.Native.Nat.{ℕ, ◌+◌, ◌-◌, ◌*◌, ◌%◌, ◌<◌, ◌≤◌}
+use native.Mathlib.Nat.{not-suc-le-zero, eq-or-lt_of_le, mul_comm}
 use native.Mathlib.Omega.{arith}
-use Rattle·laws.proofs.Radix.{rem-of, quot-of}
-use Rattle·chain.specs.Puncture.{keptStep}
-use Rattle·chain.specs.Decoder.{sumAfter, codedAfter, forcingBit, forcedHistory, forcedInput}
-use Rattle·chain.proofs.Inverse.{forced-history}
-use Rattle·forcing·specs.specs.Asked.{Tally}
+use Rattle.laws.proofs.Radix.{rem_of, quot_of}
+use Rattle.chain.specs.Puncture.{kept_step}
+use Rattle.chain.specs.Decoder.{sum_after, coded_after, forcing_bit, forced_history, forced_input}
+use Rattle.chain.proofs.Inverse.{forced_history_lem}
+use Rattle.forcing.specs.Asked.{Tally}
 
 module _ (h : ℕ) (c : ℕ → ℕ) (q : ℕ) (two : 2 ≤ q) where
-  pub tally-none : Tally h c q 0 0
-  tally-none = record { sound = λ e g l. absurd (not-suc-le-zero l); full = λ e. refl; few = omega arith }
+  pub tally_none : Tally h c q 0 0
+  tally_none = record { sound = λ e g l. absurd (not-suc-le-zero l); full = λ e. refl; few = omega arith }
 
   -- the first step of group g
-  first-rem : (g : ℕ) → (q - 1) * g % (q - 1) ≡ 0
-  first-rem g = rem-of (q - 1) g 0 _ (omega arith) (rw (mul-comm (q - 1) g) (omega arith))
+  first_rem : (g : ℕ) → (q - 1) * g % (q - 1) ≡ 0
+  first_rem g = rem_of (q - 1) g 0 _ (omega arith) (rw (mul_comm (q - 1) g) (omega arith))
 
-  first-at : (g : ℕ) → forcingBit q ((q - 1) * g) ≡ q * g + 1
-  unfolding forcingBit
-  first-at g = rw (first-rem g, quot-of (q - 1) g 0 ((q - 1) * g) (omega arith) (rw (mul-comm (q - 1) g) (omega arith)), mul-comm g q) (omega arith)
+  first_at : (g : ℕ) → forcing_bit q ((q - 1) * g) ≡ q * g + 1
+  unfolding forcing_bit
+  first_at g = rw (first_rem g, quot_of (q - 1) g 0 ((q - 1) * g) (omega arith) (rw (mul_comm (q - 1) g) (omega arith)), mul_comm g q) (omega arith)
 
-  first-step : (g : ℕ) → keptStep q (q * g) ≡ (q - 1) * g
-  unfolding keptStep
-  first-step g =
-      rw (rem-of q g 0 (q * g) (omega arith) (rw (mul-comm q g) (omega arith)), quot-of q g 0 (q * g) (omega arith) (rw (mul-comm q g) (omega arith))) (omega arith)
+  first_step : (g : ℕ) → kept_step q (q * g) ≡ (q - 1) * g
+  unfolding kept_step
+  first_step g =
+      rw (rem_of q g 0 (q * g) (omega arith) (rw (mul_comm q g) (omega arith)), quot_of q g 0 (q * g) (omega arith) (rw (mul_comm q g) (omega arith))) (omega arith)
 
   -- the group's first coded bit, and its first input
-  first-coded : (g : ℕ) → codedAfter h (forcedInput h c q) q (q * g) ≡ sumAfter 0 (forcedHistory h c q ((q - 1) * g)) (forcedInput h c q ((q - 1) * g))
-  unfolding codedAfter
-  first-coded g =
-      rw (first-step g, rem-of q g 0 (q * g) (omega arith) (rw (mul-comm q g) (omega arith)))
-      (ap (λ (z : ℕ). sumAfter 0 z (forcedInput h c q ((q - 1) * g))) (sym (forced-history q two h c ((q - 1) * g))))
+  first_coded : (g : ℕ) → coded_after h (forced_input h c q) q (q * g) ≡ sum_after 0 (forced_history h c q ((q - 1) * g)) (forced_input h c q ((q - 1) * g))
+  unfolding coded_after
+  first_coded g =
+      rw (first_step g, rem_of q g 0 (q * g) (omega arith) (rw (mul_comm q g) (omega arith)))
+      (ap (λ (z : ℕ). sum_after 0 z (forced_input h c q ((q - 1) * g))) (sym (forced_history_lem q two h c ((q - 1) * g))))
 
-  first-input : (g : ℕ) → forcedInput h c q ((q - 1) * g) ≡ sumAfter 1 (forcedHistory h c q ((q - 1) * g)) (c (q * g + 1))
-  unfolding forcedInput
-  first-input g = rw (first-rem g, first-at g)
+  first_input : (g : ℕ) → forced_input h c q ((q - 1) * g) ≡ sum_after 1 (forced_history h c q ((q - 1) * g)) (c (q * g + 1))
+  unfolding forced_input
+  first_input g = rw (first_rem g, first_at g)
 
   -- what the code compares with
-  checked : (g x b a : ℕ) → x ≡ forcedHistory h c q ((q - 1) * g) → b ≡ sumAfter 1 x (c (q * g + 1)) → a ≡ sumAfter 0 x b
-      → a ≡ codedAfter h (forcedInput h c q) q (q * g)
+  checked : (g x b a : ℕ) → x ≡ forced_history h c q ((q - 1) * g) → b ≡ sum_after 1 x (c (q * g + 1)) → a ≡ sum_after 0 x b
+      → a ≡ coded_after h (forced_input h c q) q (q * g)
   checked g x b a ex eb ea =
-      ea ∙ ap₂ (sumAfter 0) ex (eb ∙ ap (λ (z : ℕ). sumAfter 1 z (c (q * g + 1))) ex ∙ sym (first-input g)) ∙ sym (first-coded g)
+      ea ∙ ap₂ (sum_after 0) ex (eb ∙ ap (λ (z : ℕ). sum_after 1 z (c (q * g + 1))) ex ∙ sym (first_input g)) ∙ sym (first_coded g)
 
   -- one group more
-  pub tally-more : (g bad w x b a : ℕ) → Tally h c q g bad → x ≡ forcedHistory h c q ((q - 1) * g) → b ≡ sumAfter 1 x (c (q * g + 1)) → a ≡ sumAfter 0 x b
+  pub tally_more : (g bad w x b a : ℕ) → Tally h c q g bad → x ≡ forced_history h c q ((q - 1) * g) → b ≡ sum_after 1 x (c (q * g + 1)) → a ≡ sum_after 0 x b
       → (w ≡ 0 → c (q * g) ≡ a) → (c (q * g) ≡ a → w ≡ 0) → w ≤ 1 → Tally h c q (g + 1) (bad + w)
-  tally-more g bad w x b a y ex eb ea right wrong few =
-      let same : a ≡ codedAfter h (forcedInput h c q) q (q * g) = checked g x b a ex eb ea in
+  tally_more g bad w x b a y ex eb ea right wrong few =
+      let same : a ≡ coded_after h (forced_input h c q) q (q * g) = checked g x b a ex eb ea in
       record {
-        sound = λ z k l. ⊎-elim
-            (λ (i : k ≡ g). subst (λ (n : ℕ). c (q * n) ≡ codedAfter h (forcedInput h c q) q (q * n)) (sym i) (right (omega (arith, z)) ∙ same))
-            (λ (i : k < g). y .sound (omega (arith, z)) k i)
-            (eq-or-lt-of-le (omega arith));
+        sound = λ z k l. ⊎_elim
+            (λ (i : k ≡ g). subst (λ (n : ℕ). c (q * n) ≡ coded_after h (forced_input h c q) q (q * n)) (sym i) (right (omega (arith, z)) ∙ same))
+            (λ (i : k < g). y.sound (omega (arith, z)) k i)
+            (eq-or-lt_of_le (omega arith));
         full = λ r.
-            let past : bad ≡ 0 = y .full (λ k l. r k (omega arith)) in
+            let past : bad ≡ 0 = y.full (λ k l. r k (omega arith)) in
             let new : w ≡ 0 = wrong (r g (omega arith) ∙ sym same) in
             omega arith;
-        few = omega (arith, y .few);
+        few = omega (arith, y.few);
       }

@@ -1,14 +1,12 @@
 // The inputs that the coded bits of one encoder force, step by step and group by group, in one pass: no search.
-ghost use mathlib.Core.Path.{_≡_};
-ghost use Prim.Native.Nat.{_+_, _-_, _%_, _<_, _≤_};
-ghost use lib.ListN.{getD};
-ghost use Rattle·chain.specs.Decoder.{historyA, historyB, historyWith};
-ghost use Rattle·forcing·specs.specs.Asked.{StepAsked, StepDone, Part, GroupAsked, EncoderAsked, EncoderDone};
+ghost use Rattle.std.specs.Prelude.{◌≡◌, ◌+◌, ◌-◌, ◌%◌, ◌<◌, ◌≤◌, get_or};
+ghost use Rattle.chain.specs.Decoder.{history_a, history_b, history_with};
+ghost use Rattle.forcing.specs.Asked.{StepAsked, StepDone, Part, GroupAsked, EncoderAsked, EncoderDone};
 
 // The sum at place m of a pattern, after a history, with b for the input.
 fn sum_after(m: usize, history: u8, b: u8) -> u8
-    requires { ⌜ (history < 64) × (b < 2) ⌝ }
-    ensures { λ r. ⌜ ((m % 2 ≡ 0 → r ≡ historyA history b) × ((m % 2 ≡ 0 → ⊥) → r ≡ historyB history b) × (r < 2)) ⌝ }
+    requires { (history < 64) × (b < 2) }
+    ensures { (m % 2 ≡ 0 → result ≡ history_a history b) × ((m % 2 ≡ 0 → ⊥) → result ≡ history_b history b) × (result < 2) }
 {
     if m % 2 == 0 {
         (history / 2 + history / 4 + (history / 16 + history / 32) + b) % 2
@@ -19,23 +17,23 @@ fn sum_after(m: usize, history: u8, b: u8) -> u8
 
 // The history after one input more.
 fn push(history: u8, b: u8) -> u8
-    requires { ⌜ (history < 64) × (b < 2) ⌝ }
-    ensures { λ r. ⌜ (r ≡ historyWith history b) × (r < 64) ⌝ }
+    requires { (history < 64) × (b < 2) }
+    ensures { (result ≡ history_with history b) × (result < 64) }
 {
     (2 * history + b) % 64
 }
 
 // 0 exactly when the two bits are the same.
 fn differ(a: u8, b: u8) -> usize
-    ensures { λ r. ⌜ ((r ≡ 0 → a ≡ b) × (a ≡ b → r ≡ 0) × (r ≤ 1)) ⌝ }
+    ensures { (result ≡ 0 → a ≡ b) × (a ≡ b → result ≡ 0) × (result ≤ 1) }
 {
     if a == b { 0 } else { 1 }
 }
 
 // A step: the input that coded bit i, at place m of a pattern, forces, put at `to`; the history after it.
 fn step(inputs: &mut [u8], coded: &[u8], history: u8, m: usize, to: usize, i: usize) -> u8
-    requires { ⌜ StepAsked (now inputs) (now coded) history to i ⌝ }
-    ensures { λ r. ⌜ StepDone m history (getD (now (coded .entry)) i 0) to r (now (inputs .entry)) (now (inputs .exit)) ⌝ }
+    requires { StepAsked inputs.old coded.now history to i }
+    ensures { StepDone m history (get_or coded.now i 0) to result inputs.old inputs.new }
 {
     let b = sum_after(m, history, coded[i]);
     inputs[to] = b;
@@ -52,8 +50,8 @@ fn group(
     to: usize,
     i: usize,
 ) -> u8
-    requires { ⌜ GroupAsked (now inputs) (now coded) history kept encoders to i ⌝ }
-    ensures { λ r. ⌜ Part history (λ k. getD (now (coded .entry)) (i + k) 0) kept encoders to (kept - 1) r (now (inputs .entry)) (now (inputs .exit)) ⌝ }
+    requires { GroupAsked inputs.old coded.now history kept encoders to i }
+    ensures { Part history (λ k. get_or coded.now (i + k) 0) kept encoders to (kept - 1) result inputs.old inputs.new }
 {
     let one = step(inputs, coded, history, 1, to, i + 1);
     if kept == 2 {
@@ -72,6 +70,7 @@ fn group(
 }
 
 // An encoder's history after a symbol, and how many groups' first bits are not those of the forced inputs.
+#[derive(Drop)]
 pub struct Forced {
     pub history: u8,
     pub wrong: usize,
@@ -88,8 +87,8 @@ pub fn decode_encoder(
     encoders: usize,
     j: usize,
 ) -> Forced
-    requires { ⌜ EncoderAsked (now inputs) (now coded) history kept groups base encoders j ⌝ }
-    ensures { λ r. ⌜ EncoderDone history (λ i. getD (now (coded .entry)) (base + i) 0) kept groups encoders j (r .history) (r .wrong) (now (inputs .entry)) (now (inputs .exit)) ⌝ }
+    requires { EncoderAsked inputs.old coded.now history kept groups base encoders j }
+    ensures { EncoderDone history (λ i. get_or coded.now (base + i) 0) kept groups encoders j result.history result.wrong inputs.old inputs.new }
 {
     let stride = (kept - 1) * encoders;
     let mut h = history;

@@ -1,55 +1,55 @@
 -- The refusals of the points call, each given exactly when its row of document 01's table applies and none tested before it does. Assumes nothing.
-use mathlib.Core.Path.{_≡_, refl}
+use mathlib.Core.Path.{◌≡◌, refl}
 use mathlib.Core.Bool.{Bool, true, false, cond}
-use mathlib.Core.List.{List, [], _∷_, _++_}
-use mathlib.Core.Logic.{_↔_}
-use Prim.Native.Nat.{ℕ, _≤_}
+use mathlib.Core.List.{List, [], ◌∷◌, ◌++◌}
+use mathlib.Core.Logic.{◌↔◌}
+use Prim.Native.Nat.{ℕ, ◌≤◌}
 use borrow.Author.Tests.{leb-true, le-leb}
 use lib.Dec.{ltb, leb}
 use lib.ListN.{length}
 use lib.Ieee.{Float}
-use Rattle·laws.specs.Refusals.{Rule}
-use Rattle·laws.proofs.Refusing.{given-exactly}
-use Rattle·laws.proofs.Reflect.{less}
-use Rattle·settings.specs.declared.settings.Refusal.the-variants.{Source, Place, Room}
-use Rattle·settings.specs.declared.settings.RawSettings.{RawSettings}
-use Rattle·settings.specs.declared.settings.Checked.{Checked}
-use Rattle·settings.specs.Settings.{settingsOf, checkOf}
-use Rattle·symbols.specs.Symbols.{symbolsOf}
-use Rattle·settings.proofs.Refusals.{settingsRules, after-settings}
-use Rattle·frame·specs.specs.declared.points.PointsAnswer.{PointsAnswer}
-use Rattle·frame·specs.specs.declared.points.PointsAnswer.the-variants.{Written, Refused as PointsRefused}
-use Rattle·frame·specs.specs.Points.{floatsOf, pointsOf, pointsIntoBy, floatsIn, pointsInto, pointsNumber}
-use Rattle·frame·specs.specs.Statements.{PayloadRow, SymbolRow, PointsRoomRow, PointsRefusals}
+use Rattle.laws.specs.Refusals.{Rule}
+use Rattle.laws.proofs.Refusing.{given_exactly}
+use Rattle.laws.proofs.Reflect.{less}
+use Rattle.settings.specs.declared.settings.Refusal.TheVariants.{Source, Place, Room}
+use Rattle.settings.specs.declared.settings.RawSettings.{RawSettings}
+use Rattle.settings.specs.declared.settings.Checked.{Checked}
+use Rattle.settings.specs.Settings.{settings_of, check_of}
+use Rattle.symbols.specs.Symbols.{symbols_of}
+use Rattle.settings.proofs.Refusals.{settingsRules, after_settings}
+use Rattle.frame.specs.declared.points.PointsAnswer.{PointsAnswer}
+use Rattle.frame.specs.declared.points.PointsAnswer.TheVariants.{Written, Refused as PointsRefused}
+use Rattle.frame.specs.Points.{floats_of, points_of, points_into_by, floats_in, points_into, points_number}
+use Rattle.frame.specs.Statements.{PayloadRow, SymbolRow, PointsRoomRow, PointsRefusals}
 
 -- a test of ≤ says it
-pub at-most : (a b : ℕ) → (leb a b ≡ true) ↔ (a ≤ b)
-at-most a b = (leb-true a b, le-leb a b)
+pub at_most : (a b : ℕ) → (leb a b ≡ true) ↔ (a ≤ b)
+at_most a b = (leb-true a b, le-leb a b)
 
 -- the rows after those of the settings, each with its test
 module _ (a : RawSettings) where
   abbrev pub sourceRule : ℕ → Rule
-  sourceRule bytes = record { number = 6; Applies = PayloadRow a bytes; test = ltb bytes (a .length); right = less bytes (a .length) }
+  sourceRule bytes = record { number = 6; Applies = PayloadRow a bytes; test = ltb bytes a.length; right = less bytes a.length }
 
   abbrev symbolRule : ℕ → Rule
-  symbolRule symbol = record { number = 7; Applies = SymbolRow a symbol; test = leb (symbolsOf (settingsOf a)) symbol; right = at-most (symbolsOf (settingsOf a)) symbol }
+  symbolRule symbol = record { number = 7; Applies = SymbolRow a symbol; test = leb (symbols_of (settings_of a)) symbol; right = at_most (symbols_of (settings_of a)) symbol }
 
-  abbrev roomRule : ℕ → Rule
-  roomRule room = record { number = 8; Applies = PointsRoomRow a room; test = ltb room (floatsOf (settingsOf a)); right = less room (floatsOf (settingsOf a)) }
+  abbrev room_rule : ℕ → Rule
+  room_rule room = record { number = 8; Applies = PointsRoomRow a room; test = ltb room (floats_of (settings_of a)); right = less room (floats_of (settings_of a)) }
 
   -- in document 01's order
   abbrev pointsRules : (bytes symbol room : ℕ) → List Rule
-  pointsRules bytes symbol room = sourceRule bytes ∷ symbolRule symbol ∷ roomRule room ∷ []
+  pointsRules bytes symbol room = sourceRule bytes ∷ symbolRule symbol ∷ room_rule room ∷ []
 
 -- the points call gives each refusal exactly when its row applies and none before it does
-pub points-refusals : PointsRefusals
-points-refusals a bytes symbol room =
-    given-exactly (pointsNumber (pointsOf (checkOf a) bytes symbol room)) (settingsRules a ++ pointsRules a bytes symbol room) tt
-    (after-settings a (λ (c : Checked). pointsNumber (pointsOf c bytes symbol room)) (pointsRules a bytes symbol room) (λ r. refl)
-    (go (ltb bytes (a .length)) (leb (symbolsOf (settingsOf a)) symbol) (ltb room (floatsOf (settingsOf a)))))
+pub points_refusals : PointsRefusals
+points_refusals a bytes symbol room =
+    given_exactly (points_number (points_of (check_of a) bytes symbol room)) (settingsRules a ++ pointsRules a bytes symbol room) tt
+    (after_settings a (λ (c : Checked). points_number (points_of c bytes symbol room)) (pointsRules a bytes symbol room) (λ r. refl)
+    (go (ltb bytes a.length) (leb (symbols_of (settings_of a)) symbol) (ltb room (floats_of (settings_of a)))))
   where
     go : (s n r : Bool)
-        → pointsNumber (cond s (PointsRefused Source) (cond n (PointsRefused Place) (cond r (PointsRefused Room) (Written (floatsOf (settingsOf a))))))
+        → points_number (cond s (PointsRefused Source) (cond n (PointsRefused Place) (cond r (PointsRefused Room) (Written (floats_of (settings_of a))))))
         ≡ cond s 6 (cond n 7 (cond r 8 0))
     go true n r = refl
     go false true r = refl
@@ -57,10 +57,10 @@ points-refusals a bytes symbol room =
     go false false false = refl
 
 -- a refused points call leaves the lent floats as they were
-pub refused-points-unchanged : (a : RawSettings) (payload : List ℕ) (symbol : ℕ) (out : List Float)
-    → (pointsNumber (pointsOf (checkOf a) (length payload) symbol (length out)) ≡ 0 → ⊥) → pointsInto (checkOf a) payload symbol out ≡ out
-refused-points-unchanged a payload symbol out = go (pointsOf (checkOf a) (length payload) symbol (length out))
+pub refused_points_unchanged : (a : RawSettings) (payload : List ℕ) (symbol : ℕ) (out : List Float)
+    → (points_number (points_of (check_of a) (length payload) symbol (length out)) ≡ 0 → ⊥) → points_into (check_of a) payload symbol out ≡ out
+refused_points_unchanged a payload symbol out = go (points_of (check_of a) (length payload) symbol (length out))
   where
-    go : (x : PointsAnswer) → (pointsNumber x ≡ 0 → ⊥) → pointsIntoBy x (floatsIn (checkOf a) payload symbol) out ≡ out
+    go : (x : PointsAnswer) → (points_number x ≡ 0 → ⊥) → points_into_by x (floats_in (check_of a) payload symbol) out ≡ out
     go (Written count) n = absurd (n refl)
     go (PointsRefused r) n = refl

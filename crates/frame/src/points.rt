@@ -1,25 +1,19 @@
 // The points of any one data symbol (document 01, 'From payload to points').
+ghost use Rattle.std.specs.Prelude.{◌≡◌, ◌≤◌, length};
+ghost use Rattle.std.specs.Float.{nan};
+ghost use Rattle.laws.specs.Filled.{Filled};
+ghost use Rattle.settings.specs.Settings.{check_of, Right};
+ghost use Rattle.frame.specs.Points.{point_float, floats_of, points_of, points_into};
+ghost use Rattle.frame.specs.Asked.{InFrame, WriteAsked, LabelsHeld};
+
 use chain::plan::MOST_HALVES;
 use coding::labels::half_labels;
 use modulator::symbol::symbol_points;
-use settings::settings::Checked;
-use settings::settings::RawSettings;
-use settings::settings::Refusal;
-use settings::settings::Settings;
-use settings::settings::check;
-use settings::settings::plan_of;
-use settings::settings::refusal_of;
+use settings::settings::{Checked, RawSettings, Refusal, Settings, check, plan_of, refusal_of};
 use subcarriers::layout::places_of;
 use symbols::count::symbols_of;
-ghost use mathlib.Core.Path.{_≡_};
-ghost use Prim.Native.Nat.{_≤_};
-ghost use lib.ListN.{length};
-ghost use lib.Ieee.{nan};
-ghost use Rattle·laws.specs.Filled.{Filled};
-ghost use Rattle·settings.specs.Settings.{checkOf, Right};
-ghost use Rattle·frame·specs.specs.Points.{pointFloat, floatsOf, pointsOf, pointsInto};
-ghost use Rattle·frame·specs.specs.Asked.{InFrame, WriteAsked, LabelsHeld};
 
+#[derive(Drop)]
 pub enum PointsAnswer {
     Written(u64),
     Refused(Refusal),
@@ -27,8 +21,8 @@ pub enum PointsAnswer {
 
 // The half labels of symbol n of a frame.
 pub fn labels_of(halves: &mut [u8], payload: &[u8], s: Settings, n: usize)
-    requires { ⌜ InFrame s (now payload) n × (864 ≤ length (now halves)) ⌝ }
-    ensures { λ _. ⌜ LabelsHeld s (now (payload .entry)) n (now (halves .exit)) ⌝ }
+    requires { InFrame s payload.now n × (864 ≤ length halves.old) }
+    ensures { LabelsHeld s payload.now n halves.new }
 {
     half_labels(
         halves,
@@ -42,8 +36,8 @@ pub fn labels_of(halves: &mut [u8], payload: &[u8], s: Settings, n: usize)
 
 // The floats of a symbol.
 pub fn floats_of(s: Settings) -> usize
-    requires { ⌜ Right s ⌝ }
-    ensures { λ r. ⌜ (r ≡ floatsOf s) × (r ≤ 912) ⌝ }
+    requires { Right s }
+    ensures { (result ≡ floats_of s) × (result ≤ 912) }
 {
     let plan = plan_of(s);
     plan.streams * (2 * places_of(plan.width))
@@ -51,8 +45,8 @@ pub fn floats_of(s: Settings) -> usize
 
 // Symbol n of accepted settings, where there is room for it.
 fn write_symbol(out: &mut [f32], payload: &[u8], s: Settings, n: usize)
-    requires { ⌜ WriteAsked (now out) s (now payload) n ⌝ }
-    ensures { λ _. ⌜ Filled nan 0 (pointFloat s (now (payload .entry)) n) (floatsOf s) (now (out .entry)) (now (out .exit)) ⌝ }
+    requires { WriteAsked out.old s payload.now n }
+    ensures { Filled nan 0 (point_float s payload.now n) (floats_of s) out.old out.new }
 {
     let mut halves = [0u8; MOST_HALVES];
     labels_of(&mut halves, payload, s, n);
@@ -61,8 +55,8 @@ fn write_symbol(out: &mut [f32], payload: &[u8], s: Settings, n: usize)
 
 // The public points call: the symbol's floats and the rest of the slice as it was, or a refusal and nothing written.
 pub fn points(raw: RawSettings, payload: &[u8], symbol: u64, out: &mut [f32]) -> PointsAnswer
-    ensures { λ r. ⌜ r ≡ pointsOf (checkOf raw) (length (now (payload .entry))) symbol (length (now (out .entry))) ⌝ }
-    ensures { λ _. ⌜ now (out .exit) ≡ pointsInto (checkOf raw) (now (payload .entry)) symbol (now (out .entry)) ⌝ }
+    ensures value { result ≡ points_of (check_of raw) (length payload.now) symbol (length out.old) }
+    ensures out_after { out.new ≡ points_into (check_of raw) payload.now symbol out.old }
 {
     let checked = check(raw);
     let Checked::Accepted(s) = checked else {

@@ -1,10 +1,8 @@
 -- The reading of a whole frame as one number (docs/C-API.md): the seed, or the refusal's number negated.
-use mathlib.Core.Bool.{cond}
-use lib.Dec.{eqb}
-use lib.IntN.{ℤ, pos}
-use Rattle·laws.specs.Integers.{minus}
-use Rattle·frame_steps.specs.declared.steps.FrameAnswer.{FrameAnswer}
-use Rattle·frame_steps.specs.WholeFrame.{frameNumber, frameSeed}
+use Rattle.std.specs.Prelude.{cond, eqb, ℤ, pos}
+use Rattle.laws.specs.Integers.{minus}
+use Rattle.frame_steps.specs.declared.steps.FrameAnswer.{FrameAnswer}
+use Rattle.frame_steps.specs.WholeFrame.{frame_number, frame_seed}
 
-abbrev pub frameResult : FrameAnswer → ℤ
-frameResult r = cond (eqb (frameNumber r) 0) (pos (frameSeed r)) (minus (frameNumber r))
+abbrev pub frame_result : FrameAnswer → ℤ
+frame_result r = cond (eqb (frame_number r) 0) (pos (frame_seed r)) (minus (frame_number r))

@@ -1,30 +1,21 @@
 // The strict reader started and stepped over the symbols of a frame, whose points stand in one slice, symbol by symbol.
+ghost use Rattle.std.specs.Prelude.{◌≡◌, ◌≤◌, length, get_or};
+ghost use Rattle.laws.specs.Filled.{Filled};
+ghost use Rattle.frame_steps.specs.WholeFrame.{read_frame_of, read_frame_into};
+ghost use Rattle.frame_steps.specs.Statements.{ReadsFrame};
+ghost use Rattle.frame_steps.specs.Asked.{FrameAsked};
+ghost use Rattle.frame_reader.specs.Asked.{FrameLeft};
+
 use frame::points::floats_of;
-use frame_steps::steps::FrameAnswer;
-use frame_steps::steps::read_symbols;
-use reader_state::state::OpenSettings;
-use reader_state::state::Reader;
-use reader_state::state::raw_of;
-use reader_state::state::start;
-use settings::settings::Checked;
-use settings::settings::Refusal;
-use settings::settings::Settings;
-use settings::settings::check;
-use settings::settings::refusal_of;
+use frame_steps::steps::{FrameAnswer, read_symbols};
+use reader_state::state::{OpenSettings, Reader, raw_of, start};
+use settings::settings::{Checked, Refusal, Settings, check, refusal_of};
 use symbols::count::symbols_of;
-ghost use mathlib.Core.Path.{_≡_};
-ghost use Prim.Native.Nat.{_≤_};
-ghost use lib.ListN.{length, getD};
-ghost use Rattle·laws.specs.Filled.{Filled};
-ghost use Rattle·frame_steps.specs.WholeFrame.{readFrameOf, readFrameInto};
-ghost use Rattle·frame_steps.specs.Statements.{ReadsFrame};
-ghost use Rattle·frame_steps.specs.Asked.{FrameAsked};
-ghost use Rattle·frame_reader·specs.specs.Asked.{FrameLeft};
 
 // The first bytes of a slice put into another.
 fn copy_bytes(to: &mut [u8], from: &[u8], count: usize)
-    requires { ⌜ (count ≤ length (now to)) × (count ≤ length (now from)) ⌝ }
-    ensures { λ _. ⌜ Filled 0 0 (λ k. getD (now (from .entry)) k 0) count (now (to .entry)) (now (to .exit)) ⌝ }
+    requires { (count ≤ length to.old) × (count ≤ length from.now) }
+    ensures { Filled 0 0 (λ k. get_or from.now k 0) count to.old to.new }
 {
     let mut i: usize = 0;
     while i < count {
@@ -41,8 +32,8 @@ fn read_into(
     apart: &mut [u8],
     payload: &mut [u8],
 ) -> FrameAnswer
-    requires { ⌜ FrameAsked s reader (now points) (now payload) × (65535 ≡ length (now apart)) ⌝ }
-    ensures { λ r. ⌜ FrameLeft reader (now (points .entry)) r (now (payload .entry)) (now (payload .exit)) ⌝ }
+    requires { FrameAsked s reader points.now payload.old × (65535 ≡ length apart.old) }
+    ensures { FrameLeft reader points.now result payload.old payload.new }
 {
     let answer = read_symbols(reader, symbols_of(s), floats_of(s), points, apart);
     if let FrameAnswer::Read(_) = answer {
@@ -53,8 +44,8 @@ fn read_into(
 
 // The bytes apart, so that a frame refused late leaves the payload as it was.
 fn read_apart(s: Settings, reader: Reader, points: &[f32], payload: &mut [u8]) -> FrameAnswer
-    requires { ⌜ FrameAsked s reader (now points) (now payload) ⌝ }
-    ensures { λ r. ⌜ FrameLeft reader (now (points .entry)) r (now (payload .entry)) (now (payload .exit)) ⌝ }
+    requires { FrameAsked s reader points.now payload.old }
+    ensures { FrameLeft reader points.now result payload.old payload.new }
 {
     let mut apart = [0u8; 65535];
     read_into(s, reader, points, &mut apart, payload)
@@ -62,9 +53,9 @@ fn read_apart(s: Settings, reader: Reader, points: &[f32], payload: &mut [u8]) -
 
 // The public call: the frame's payload and seed, or a refusal that changes nothing: the settings', 8, and then the symbols' 9, 10, 11.
 pub fn read_frame(o: OpenSettings, points: &[f32], payload: &mut [u8]) -> FrameAnswer
-    ensures answered { λ r. ⌜ r ≡ readFrameOf o (now (points .entry)) (length (now (payload .entry))) ⌝ }
-    ensures left { λ _. ⌜ now (payload .exit) ≡ readFrameInto o (now (points .entry)) (now (payload .entry)) ⌝ }
-    ensures exactly { λ r. ⌜ ReadsFrame o (now (points .entry)) r (now (payload .entry)) (now (payload .exit)) ⌝ }
+    ensures answered { result ≡ read_frame_of o points.now (length payload.old) }
+    ensures left { payload.new ≡ read_frame_into o points.now payload.old }
+    ensures exactly { ReadsFrame o points.now result payload.old payload.new }
 {
     let checked = check(raw_of(o));
     let Checked::Accepted(s) = checked else {

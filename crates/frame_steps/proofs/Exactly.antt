@@ -1,233 +1,233 @@
 -- Demand 2 of a whole frame's slices, and the refusals of its reading in their order: the terms of specs/Statements. Assumes nothing.
-use mathlib.Core.Path.{_≡_, _∙_, refl, sym, ap, subst}
+use mathlib.Core.Path.{◌≡◌, ◌∙◌, refl, sym, ap, subst}
 use mathlib.Core.Bool.{Bool, true, false, cond}
-use mathlib.Core.List.{List, _++_}
-use mathlib.Core.Logic.{_⊎_, ⊎-elim}
-use Prim.Native.Nat.{ℕ, _+_, _-_, _*_, _<_}
+use mathlib.Core.List.{List, ◌++◌}
+use mathlib.Core.Logic.{◌⊎◌, ⊎_elim}
+use Prim.Native.Nat.{ℕ, ◌+◌, ◌-◌, ◌*◌, ◌<◌}
 use native.Mathlib.Omega.{arith}
 use borrow.Author.Tests.{le-ltb, ltb-false, eqb-true, eqb-false}
 use lib.Dec.{eqb, ltb}
 use lib.ListN.{length, take, drop}
 use lib.Seq.{take-length}
 use lib.Ieee.{Float}
-use Rattle·laws.specs.Firsts.{firsts}
-use Rattle·laws.proofs.Firsts.{fill-list}
-use Rattle·laws.proofs.Reflect.{or-false}
-use Rattle·laws.proofs.Search.{AllBelow, FirstFailing, search-below}
-use Rattle·chain.specs.DataBits.{payloadBit}
-use Rattle·settings.specs.declared.settings.Refusal.{Refusal}
-use Rattle·settings.specs.declared.settings.Refusal.the-variants.{Room}
-use Rattle·settings.specs.declared.settings.Checked.{Checked}
-use Rattle·settings.specs.declared.settings.Checked.the-variants.{Accepted, Refused}
-use Rattle·settings.specs.Settings.{checkOf}
-use Rattle·symbols.specs.Symbols.{symbolsOf}
-use Rattle·symbols.proofs.CountLaws.{symbols-some}
-use Rattle·frame.specs.Points.{floatsOf}
-use Rattle·assembler.specs.Assembled.{byteOf}
-use Rattle·reader_state.specs.declared.state.OpenSettings.{OpenSettings}
-use Rattle·reader_state.specs.declared.state.StartAnswer.the-variants.{Refused as StartRefused}
-use Rattle·acceptance.specs.declared.accept.StepAnswer.{StepAnswer}
-use Rattle·acceptance.specs.declared.accept.StepAnswer.the-variants.{First, Next, BadPoint, Refused as StepRefused}
-use Rattle·reader_state.specs.State.{openRaw, startBy, startNumber}
-use Rattle·reader.specs.Step.{stepNumber, stepSeed, stepStream, stepSubcarrier}
-use Rattle·reader_runs.specs.Sent.{settingsFor}
-use Rattle·reader_runs.proofs.Steps.{sound}
-use Rattle·verdicts.proofs.StepCases.{accepted-zero}
-use Rattle·reader_runs.proofs.Runs.{run-takes, run-refused}
-use Rattle·reader_runs.proofs.Payloads.{first-bytes}
-use Rattle·demands.specs.Demand2.{Begun, IsFrame}
-use Rattle·demands.proofs.Reading.{begun-ready}
-use Rattle·demands.proofs.Demand2.{gives-all, demand-2a}
-use Rattle·frame_steps·specs.specs.declared.steps.FrameAnswer.{FrameAnswer}
-use Rattle·frame_steps·specs.specs.declared.steps.FrameAnswer.the-variants.{Read, BadPoint as BadPointAt, BadSymbol, Refused as FrameRefused}
-use Rattle·frame_steps·specs.specs.WholeFrame.{symbolAt, answerAt, memoryAt, refusedAs, symbolsAnswer, frameNoRoom, readFrameBy}
-use Rattle·frame_steps·specs.specs.WholeFrame.{readFrameOf, frameIntoBy, readFrameInto}
-use Rattle·frame_steps·specs.specs.WholeFrame.{frameNumber, frameSeed, frameSymbol, frameStream, frameSubcarrier}
-use Rattle·frame_steps·specs.specs.Statements.{RoomForFrame, GivesFrame, ReadsFrame, SymbolRefused, FrameRefusals}
-use Rattle·frame_steps·proofs.proofs.AnswerLaws.{answer-at, answer-read, none-refused}
-use Rattle·frame_steps·proofs.proofs.FrameLaws.{rooms, payload-read}
-use Rattle·frame_steps·proofs.proofs.LoopLaws.{refusal-some}
+use Rattle.laws.specs.Firsts.{firsts}
+use Rattle.laws.proofs.Firsts.{fill_list}
+use Rattle.laws.proofs.Reflect.{or_false}
+use Rattle.laws.proofs.Search.{AllBelow, FirstFailing, search_below}
+use Rattle.chain.specs.DataBits.{payload_bit}
+use Rattle.settings.specs.declared.settings.Refusal.{Refusal}
+use Rattle.settings.specs.declared.settings.Refusal.TheVariants.{Room}
+use Rattle.settings.specs.declared.settings.Checked.{Checked}
+use Rattle.settings.specs.declared.settings.Checked.TheVariants.{Accepted, Refused}
+use Rattle.settings.specs.Settings.{check_of}
+use Rattle.symbols.specs.Symbols.{symbols_of}
+use Rattle.symbols.proofs.CountLaws.{symbols_some}
+use Rattle.frame.specs.Points.{floats_of}
+use Rattle.assembler.specs.Assembled.{byte_of}
+use Rattle.reader_state.specs.declared.state.OpenSettings.{OpenSettings}
+use Rattle.reader_state.specs.declared.state.StartAnswer.TheVariants.{Refused as StartRefused}
+use Rattle.acceptance.specs.declared.accept.StepAnswer.{StepAnswer}
+use Rattle.acceptance.specs.declared.accept.StepAnswer.TheVariants.{First, Next, BadPoint, Refused as StepRefused}
+use Rattle.reader_state.specs.State.{open_raw, start_by, start_number}
+use Rattle.reader.specs.Step.{step_number, step_seed, step_stream, step_subcarrier}
+use Rattle.reader_runs.specs.Sent.{settings_for}
+use Rattle.reader_runs.proofs.Steps.{sound}
+use Rattle.verdicts.proofs.StepCases.{accepted_zero}
+use Rattle.reader_runs.proofs.Runs.{run_takes, run_refused}
+use Rattle.reader_runs.proofs.Payloads.{first_bytes}
+use Rattle.demands.specs.Demand2.{Begun, IsFrame}
+use Rattle.demands.proofs.Reading.{begun_ready}
+use Rattle.demands.proofs.Demand2.{gives_all, demand_2a}
+use Rattle.frame_steps.specs.declared.steps.FrameAnswer.{FrameAnswer}
+use Rattle.frame_steps.specs.declared.steps.FrameAnswer.TheVariants.{Read, BadPoint as BadPointAt, BadSymbol, Refused as FrameRefused}
+use Rattle.frame_steps.specs.WholeFrame.{symbol_at, answer_at, memory_at, refused_as, symbols_answer, frame_no_room, read_frame_by}
+use Rattle.frame_steps.specs.WholeFrame.{read_frame_of, frame_into_by, read_frame_into}
+use Rattle.frame_steps.specs.WholeFrame.{frame_number, frame_seed, frame_symbol, frame_stream, frame_subcarrier}
+use Rattle.frame_steps.specs.Statements.{RoomForFrame, GivesFrame, ReadsFrame, SymbolRefused, FrameRefusals}
+use Rattle.frame_steps.proofs.AnswerLaws.{answer_at_lem, answer_read, none_refused}
+use Rattle.frame_steps.proofs.FrameLaws.{rooms, payload_read}
+use Rattle.frame_steps.proofs.LoopLaws.{refusal_some}
 
 -- ---- with room the answer is the symbols'
 
-room-false : (o : OpenSettings) (floats bytes : ℕ) → RoomForFrame o floats bytes → frameNoRoom (settingsFor o) floats bytes ≡ false
-room-false o floats bytes room =
-    simp (le-ltb floats (symbolsOf (settingsFor o) * floatsOf (settingsFor o)) (room .0), le-ltb bytes (o .length) (room .1))
+room_false : (o : OpenSettings) (floats bytes : ℕ) → RoomForFrame o floats bytes → frame_no_room (settings_for o) floats bytes ≡ false
+room_false o floats bytes room =
+    simp (le-ltb floats (symbols_of (settings_for o) * floats_of (settings_for o)) room.0, le-ltb bytes o.length room.1)
 
-answer-by : (o : OpenSettings) → Begun o → (points : List Float) (bytes : ℕ) (t : Bool) → frameNoRoom (settingsFor o) (length points) bytes ≡ t
-    → readFrameOf o points bytes ≡ cond t (FrameRefused Room) (symbolsAnswer o points bytes)
-answer-by o begun points bytes t e =
-    ap (λ (x : Checked). readFrameBy x o points bytes) (begun-ready o begun)
-    ∙ ap (λ (b : Bool). cond b (FrameRefused Room) (symbolsAnswer o points bytes)) e
+answer_by : (o : OpenSettings) → Begun o → (points : List Float) (bytes : ℕ) (t : Bool) → frame_no_room (settings_for o) (length points) bytes ≡ t
+    → read_frame_of o points bytes ≡ cond t (FrameRefused Room) (symbols_answer o points bytes)
+answer_by o begun points bytes t e =
+    ap (λ (x : Checked). read_frame_by x o points bytes) (begun_ready o begun)
+    ∙ ap (λ (b : Bool). cond b (FrameRefused Room) (symbols_answer o points bytes)) e
 
 -- a payload is the bytes that its bits write
-own-bytes : (o : OpenSettings) (seed : ℕ) (p : List ℕ) → IsFrame o seed p → firsts (byteOf (payloadBit p)) (o .length) ≡ p
-own-bytes o seed p (some, (most, (long, small))) =
-    first-bytes p (o .length) (omega (arith, long)) small ∙ ap (λ (k : ℕ). take k p) (sym long) ∙ take-length p
+own_bytes : (o : OpenSettings) (seed : ℕ) (p : List ℕ) → IsFrame o seed p → firsts (byte_of (payload_bit p)) o.length ≡ p
+own_bytes o seed p (some, (most, (long, small))) =
+    first_bytes p o.length (omega (arith, long)) small ∙ ap (λ (k : ℕ). take k p) (sym long) ∙ take-length p
 
 module _ (o : OpenSettings) (points : List Float) (payload : List ℕ) (begun : Begun o) (room : RoomForFrame o (length points) (length payload)) where
-  ready : checkOf (openRaw o) ≡ Accepted (settingsFor o)
-  ready = begun-ready o begun
+  ready : check_of (open_raw o) ≡ Accepted (settings_for o)
+  ready = begun_ready o begun
 
   abbrev S : ℕ → List Float
-  S = symbolAt (settingsFor o) points
+  S = symbol_at (settings_for o) points
 
   abbrev count : ℕ
-  count = symbolsOf (settingsFor o)
+  count = symbols_of (settings_for o)
 
-  some-symbol : 0 < count
-  some-symbol = symbols-some (settingsFor o) (sound o ready)
+  some_symbol : 0 < count
+  some_symbol = symbols_some (settings_for o) (sound o ready)
 
-  answer-is : readFrameOf o points (length payload) ≡ symbolsAnswer o points (length payload)
-  answer-is = answer-by o begun points (length payload) false (room-false o (length points) (length payload) room)
+  answer_is : read_frame_of o points (length payload) ≡ symbols_answer o points (length payload)
+  answer_is = answer_by o begun points (length payload) false (room_false o (length points) (length payload) room)
 
   -- a frame that gives the symbols is read
   module _ (seed : ℕ) (p : List ℕ) (frame : IsFrame o seed p) (gives : GivesFrame o seed p points) where
-    answers : (n : ℕ) → n < count → answerAt o points (length payload) n ≡ cond (eqb n 0) (First seed) Next
+    answers : (n : ℕ) → n < count → answer_at o points (length payload) n ≡ cond (eqb n 0) (First seed) Next
     answers n l =
-        run-takes o ready S (λ k. length payload) count (omega arith) (rooms o ready points (room .0) (length payload) (room .1) count (omega arith))
-        (gives-all o ready S count (omega arith) seed p frame gives) n l
+        run_takes o ready S (λ k. length payload) count (omega arith) (rooms o ready points room.0 (length payload) room.1 count (omega arith))
+        (gives_all o ready S count (omega arith) seed p frame gives) n l
 
-    pub frame-read : readFrameOf o points (length payload) ≡ Read seed
-    frame-read =
-        answer-is
-        ∙ answer-read o points (length payload) (λ n l. ap stepNumber (answers n l) ∙ accepted-zero (eqb n 0) seed)
-        ∙ ap (λ (a : StepAnswer). Read (stepSeed a)) (answers 0 some-symbol)
+    pub frame_read : read_frame_of o points (length payload) ≡ Read seed
+    frame_read =
+        answer_is
+        ∙ answer_read o points (length payload) (λ n l. ap step_number (answers n l) ∙ accepted_zero (eqb n 0) seed)
+        ∙ ap (λ (a : StepAnswer). Read (step_seed a)) (answers 0 some_symbol)
 
-    pub frame-left : readFrameInto o points payload ≡ p ++ drop (o .length) payload
-    frame-left =
-        ap (λ (r : FrameAnswer). frameIntoBy r (memoryAt o points count payload) payload) frame-read
-        ∙ fill-list 0 (byteOf (payloadBit p)) (o .length) payload (memoryAt o points count payload) (room .1)
-        (payload-read o ready points (room .0) (gives-all o ready S count (omega arith) seed p frame gives) payload (room .1))
-        ∙ ap (λ (l : List ℕ). l ++ drop (o .length) payload) (own-bytes o seed p frame)
+    pub frame_left : read_frame_into o points payload ≡ p ++ drop o.length payload
+    frame_left =
+        ap (λ (r : FrameAnswer). frame_into_by r (memory_at o points count payload) payload) frame_read
+        ∙ fill_list 0 (byte_of (payload_bit p)) o.length payload (memory_at o points count payload) room.1
+        (payload_read o ready points room.0 (gives_all o ready S count (omega arith) seed p frame gives) payload room.1)
+        ∙ ap (λ (l : List ℕ). l ++ drop o.length payload) (own_bytes o seed p frame)
 
   -- and a frame that is read is given by one
-  pub frame-given : (seed : ℕ) → readFrameOf o points (length payload) ≡ Read seed → (seed′ : ℕ) × ((p : List ℕ) × (IsFrame o seed′ p × GivesFrame o seed′ p points))
-  frame-given seed e =
-      let all = none-refused o points (length payload) seed (sym answer-is ∙ e) in
-      let fill = rooms o ready points (room .0) (length payload) (room .1) count (omega arith) in
-      let g = demand-2a o S (λ k. payload) (count - 1) begun (omega (arith, some-symbol)) (λ n l. fill n (omega (arith, l, some-symbol))) .0
-      (λ n l. all n (omega (arith, l, some-symbol))) in
-      (g .0, (g .1 .0, (g .1 .1 .0, λ n l. g .1 .1 .1 n (omega (arith, l)))))
+  pub frame_given : (seed : ℕ) → read_frame_of o points (length payload) ≡ Read seed → (seed' : ℕ) × ((p : List ℕ) × (IsFrame o seed' p × GivesFrame o seed' p points))
+  frame_given seed e =
+      let all = none_refused o points (length payload) seed (sym answer_is ∙ e) in
+      let fill = rooms o ready points room.0 (length payload) room.1 count (omega arith) in
+      let g = (demand_2a o S (λ k. payload) (count - 1) begun (omega (arith, some_symbol)) (λ n l. fill n (omega (arith, l, some_symbol)))).0
+      (λ n l. all n (omega (arith, l, some_symbol))) in
+      (g.0, (g.1.0, (g.1.1.0, λ n l. g.1.1.1 n (omega (arith, l)))))
 
 -- an answer that is no seed writes nothing
-pub unread : (r : FrameAnswer) (read payload : List ℕ) → ((seed : ℕ) → r ≡ Read seed → ⊥) → frameIntoBy r read payload ≡ payload
+pub unread : (r : FrameAnswer) (read payload : List ℕ) → ((seed : ℕ) → r ≡ Read seed → ⊥) → frame_into_by r read payload ≡ payload
 unread (Read seed) read payload n = absurd (n seed refl)
 unread (BadPointAt m i z) read payload n = refl
 unread (BadSymbol m r) read payload n = refl
 unread (FrameRefused r) read payload n = refl
 
 -- an answer of number 0 has read a seed
-pub read-shown : (r : FrameAnswer) (seed : ℕ) → frameNumber r ≡ 0 → frameSeed r ≡ seed → r ≡ Read seed
-read-shown (Read k) seed z e = ap Read e
-read-shown (BadPointAt n i y) seed z e = absurd (omega (arith, z))
-read-shown (BadSymbol n r) seed z e = absurd (refusal-some r z)
-read-shown (FrameRefused r) seed z e = absurd (refusal-some r z)
+pub read_shown : (r : FrameAnswer) (seed : ℕ) → frame_number r ≡ 0 → frame_seed r ≡ seed → r ≡ Read seed
+read_shown (Read k) seed z e = ap Read e
+read_shown (BadPointAt n i y) seed z e = absurd (omega (arith, z))
+read_shown (BadSymbol n r) seed z e = absurd (refusal_some r z)
+read_shown (FrameRefused r) seed z e = absurd (refusal_some r z)
 
 -- demand 2 of the slices
-pub reads-frame : (o : OpenSettings) (points : List Float) (payload : List ℕ) → ReadsFrame o points (readFrameOf o points (length payload)) payload (readFrameInto o points payload)
-reads-frame o points payload = (
+pub reads_frame : (o : OpenSettings) (points : List Float) (payload : List ℕ) → ReadsFrame o points (read_frame_of o points (length payload)) payload (read_frame_into o points payload)
+reads_frame o points payload = (
   λ begun room. (
     (
-      λ (seed, e). frame-given o points payload begun room seed (read-shown r seed (e .0) (e .1)),
-      λ (seed, (p, (frame, gives))). (seed, shown seed (frame-read o points payload begun room seed p frame gives)),
+      λ (seed, e). frame_given o points payload begun room seed (read_shown r seed e.0 e.1),
+      λ (seed, (p, (frame, gives))). (seed, shown seed (frame_read o points payload begun room seed p frame gives)),
     ),
     λ seed p frame gives. (
-      shown seed (frame-read o points payload begun room seed p frame gives),
-      frame-left o points payload begun room seed p frame gives,
+      shown seed (frame_read o points payload begun room seed p frame gives),
+      frame_left o points payload begun room seed p frame gives,
     ),
   ),
-  λ none. unread r (memoryAt o points (symbolsOf (settingsFor o)) payload) payload (λ seed e. none seed (shown seed e)),
+  λ none. unread r (memory_at o points (symbols_of (settings_for o)) payload) payload (λ seed e. none seed (shown seed e)),
 )
   where
     r : FrameAnswer
-    r = readFrameOf o points (length payload)
+    r = read_frame_of o points (length payload)
 
-    shown : (seed : ℕ) → r ≡ Read seed → (frameNumber r ≡ 0) × (frameSeed r ≡ seed)
-    shown seed e = (ap frameNumber e, ap frameSeed e)
+    shown : (seed : ℕ) → r ≡ Read seed → (frame_number r ≡ 0) × (frame_seed r ≡ seed)
+    shown seed e = (ap frame_number e, ap frame_seed e)
 
 -- ---- refusals
 
 -- the values of a refused symbol
-symbol-number : (n : ℕ) (a : StepAnswer) → (stepNumber a ≡ 0 → ⊥)
-    → (frameNumber (refusedAs n a) ≡ stepNumber a) × (frameSymbol (refusedAs n a) ≡ n)
-symbol-number n (First seed) r = absurd (r refl)
-symbol-number n Next r = absurd (r refl)
-symbol-number n (BadPoint i z) r = (refl, refl)
-symbol-number n (StepRefused e) r = (refl, refl)
+symbol_number : (n : ℕ) (a : StepAnswer) → (step_number a ≡ 0 → ⊥)
+    → (frame_number (refused_as n a) ≡ step_number a) × (frame_symbol (refused_as n a) ≡ n)
+symbol_number n (First seed) r = absurd (r refl)
+symbol_number n Next r = absurd (r refl)
+symbol_number n (BadPoint i z) r = (refl, refl)
+symbol_number n (StepRefused e) r = (refl, refl)
 
-symbol-place : (n : ℕ) (a : StepAnswer)
-    → (frameStream (refusedAs n a) ≡ stepStream a) × (frameSubcarrier (refusedAs n a) ≡ stepSubcarrier a)
-symbol-place n (First seed) = (refl, refl)
-symbol-place n Next = (refl, refl)
-symbol-place n (BadPoint i z) = (refl, refl)
-symbol-place n (StepRefused e) = (refl, refl)
+symbol_place : (n : ℕ) (a : StepAnswer)
+    → (frame_stream (refused_as n a) ≡ step_stream a) × (frame_subcarrier (refused_as n a) ≡ step_subcarrier a)
+symbol_place n (First seed) = (refl, refl)
+symbol_place n Next = (refl, refl)
+symbol_place n (BadPoint i z) = (refl, refl)
+symbol_place n (StepRefused e) = (refl, refl)
 
-abbrev startRefusal : Checked → OpenSettings → (points : List Float) (bytes : ℕ) → Type 0
-startRefusal x o points bytes = (e : Refusal) → startBy x o .answer ≡ StartRefused e → readFrameBy x o points bytes ≡ FrameRefused e
+abbrev start_refusal : Checked → OpenSettings → (points : List Float) (bytes : ℕ) → Type 0
+start_refusal x o points bytes = (e : Refusal) → (start_by x o).answer ≡ StartRefused e → read_frame_by x o points bytes ≡ FrameRefused e
 
-start-refused : (x : Checked) (o : OpenSettings) (points : List Float) (bytes : ℕ) → startRefusal x o points bytes
-start-refused (Accepted s) o points bytes e g = let z : _≡_ {A = ℕ} 0 1 = cc in absurd (omega arith)
-start-refused (Refused r) o points bytes e g = let same : r ≡ e = cc in ap FrameRefused same
+start_refused : (x : Checked) (o : OpenSettings) (points : List Float) (bytes : ℕ) → start_refusal x o points bytes
+start_refused (Accepted s) o points bytes e g = let z : ◌≡◌ {A = ℕ} 0 1 = cc in absurd (omega arith)
+start_refused (Refused r) o points bytes e g = let same : r ≡ e = cc in ap FrameRefused same
 
-room-or-not : (o : OpenSettings) (floats bytes : ℕ) → frameNoRoom (settingsFor o) floats bytes ≡ false → RoomForFrame o floats bytes
-room-or-not o floats bytes e =
-    let f = or-false (ltb floats (symbolsOf (settingsFor o) * floatsOf (settingsFor o))) (ltb bytes (o .length)) e in
-    (ltb-false floats (symbolsOf (settingsFor o) * floatsOf (settingsFor o)) (f .0), ltb-false bytes (o .length) (f .1))
+room_or_not : (o : OpenSettings) (floats bytes : ℕ) → frame_no_room (settings_for o) floats bytes ≡ false → RoomForFrame o floats bytes
+room_or_not o floats bytes e =
+    let f = or_false (ltb floats (symbols_of (settings_for o) * floats_of (settings_for o))) (ltb bytes o.length) e in
+    (ltb-false floats (symbols_of (settings_for o) * floats_of (settings_for o)) f.0, ltb-false bytes o.length f.1)
 
 -- a begun reader with room for the whole frame
 module _ (o : OpenSettings) (points : List Float) (bytes : ℕ) (begun : Begun o) (room : RoomForFrame o (length points) bytes) where
-  symbols-answer : readFrameOf o points bytes ≡ symbolsAnswer o points bytes
-  symbols-answer = answer-by o begun points bytes false (room-false o (length points) bytes room)
+  symbols_answer_lem : read_frame_of o points bytes ≡ symbols_answer o points bytes
+  symbols_answer_lem = answer_by o begun points bytes false (room_false o (length points) bytes room)
 
-  named : (n : ℕ) → n < symbolsOf (settingsFor o) → ((k : ℕ) → k < n → stepNumber (answerAt o points bytes k) ≡ 0)
-      → (stepNumber (answerAt o points bytes n) ≡ 0 → ⊥) → SymbolRefused (readFrameOf o points bytes) n (answerAt o points bytes n)
+  named : (n : ℕ) → n < symbols_of (settings_for o) → ((k : ℕ) → k < n → step_number (answer_at o points bytes k) ≡ 0)
+      → (step_number (answer_at o points bytes n) ≡ 0 → ⊥) → SymbolRefused (read_frame_of o points bytes) n (answer_at o points bytes n)
   named n l accepted refused =
-      let ready = begun-ready o begun in
-      let a = answerAt o points bytes n in
-      let is = symbols-answer ∙ answer-at o points bytes n l accepted refused in
-      let number = ap frameNumber is ∙ symbol-number n a refused .0 in
+      let ready = begun_ready o begun in
+      let a = answer_at o points bytes n in
+      let is = symbols_answer_lem ∙ answer_at_lem o points bytes n l accepted refused in
+      let number = ap frame_number is ∙ (symbol_number n a refused).0 in
       record {
         answered = is;
         number = number;
-        nine-to-eleven = subst (λ (k : ℕ). (k ≡ 9) ⊎ ((k ≡ 10) ⊎ (k ≡ 11))) (sym number)
-            (run-refused o ready (symbolAt (settingsFor o) points) (λ k. bytes) n l
-            (rooms o ready points (room .0) bytes (room .1) (n + 1) (omega (arith, l))) accepted refused);
-        symbol = ap frameSymbol is ∙ symbol-number n a refused .1;
-        stream = ap frameStream is ∙ symbol-place n a .0;
-        subcarrier = ap frameSubcarrier is ∙ symbol-place n a .1;
+        nine_to_eleven = subst (λ (k : ℕ). (k ≡ 9) ⊎ ((k ≡ 10) ⊎ (k ≡ 11))) (sym number)
+            (run_refused o ready (symbol_at (settings_for o) points) (λ k. bytes) n l
+            (rooms o ready points room.0 bytes room.1 (n + 1) (omega (arith, l))) accepted refused);
+        symbol = ap frame_symbol is ∙ (symbol_number n a refused).1;
+        stream = ap frame_stream is ∙ (symbol_place n a).0;
+        subcarrier = ap frame_subcarrier is ∙ (symbol_place n a).1;
       }
 
   -- its answer is no 8
-  not-eight : frameNumber (readFrameOf o points bytes) ≡ 8 → ⊥
-  not-eight e =
-      ⊎-elim
-      (λ (all : AllBelow accepts (symbolsOf (settingsFor o))).
-      let zero : frameNumber (readFrameOf o points bytes) ≡ 0
-      = ap frameNumber
-      (symbols-answer ∙ answer-read o points bytes (λ k l. eqb-true (stepNumber (answerAt o points bytes k)) 0 (all k l))) in
+  not_eight : frame_number (read_frame_of o points bytes) ≡ 8 → ⊥
+  not_eight e =
+      ⊎_elim
+      (λ (all : AllBelow accepts (symbols_of (settings_for o))).
+      let zero : frame_number (read_frame_of o points bytes) ≡ 0
+      = ap frame_number
+      (symbols_answer_lem ∙ answer_read o points bytes (λ k l. eqb-true (step_number (answer_at o points bytes k)) 0 (all k l))) in
       omega (arith, e))
-      (λ (w : FirstFailing accepts (symbolsOf (settingsFor o))).
-      ⊎-elim (λ z. omega (arith, e, z)) (⊎-elim (λ z. omega (arith, e, z)) (λ z. omega (arith, e, z)))
-      (named (w .at) (w .below) (λ k l. eqb-true (stepNumber (answerAt o points bytes k)) 0 (w .passed k l))
-      (eqb-false (stepNumber (answerAt o points bytes (w .at))) 0 (w .fails)) .nine-to-eleven))
-      (search-below accepts (symbolsOf (settingsFor o)))
+      (λ (w : FirstFailing accepts (symbols_of (settings_for o))).
+      ⊎_elim (λ z. omega (arith, e, z)) (⊎_elim (λ z. omega (arith, e, z)) (λ z. omega (arith, e, z)))
+      (named w.at w.below (λ k l. eqb-true (step_number (answer_at o points bytes k)) 0 (w.passed k l))
+      (eqb-false (step_number (answer_at o points bytes w.at)) 0 w.fails)).nine_to_eleven)
+      (search_below accepts (symbols_of (settings_for o)))
     where
       accepts : ℕ → Bool
-      accepts k = eqb (stepNumber (answerAt o points bytes k)) 0
+      accepts k = eqb (step_number (answer_at o points bytes k)) 0
 
-pub frame-refusals : FrameRefusals
-frame-refusals o points bytes = (
-  λ e g. let is = start-refused (checkOf (openRaw o)) o points bytes e g in (is, ap frameNumber is ∙ sym (ap startNumber g)),
+pub frame_refusals : FrameRefusals
+frame_refusals o points bytes = (
+  λ e g. let is = start_refused (check_of (open_raw o)) o points bytes e g in (is, ap frame_number is ∙ sym (ap start_number g)),
   λ begun. (
-    (λ e room. not-eight o points bytes begun room e, λ none. ap frameNumber (short begun none)),
-    (λ e. short begun (λ room. not-eight o points bytes begun room e), λ room. named o points bytes begun room),
+    (λ e room. not_eight o points bytes begun room e, λ none. ap frame_number (short begun none)),
+    (λ e. short begun (λ room. not_eight o points bytes begun room e), λ room. named o points bytes begun room),
   ),
 )
   where
-    short : Begun o → (RoomForFrame o (length points) bytes → ⊥) → readFrameOf o points bytes ≡ FrameRefused Room
-    short begun none = by-room (frameNoRoom (settingsFor o) (length points) bytes) refl
+    short : Begun o → (RoomForFrame o (length points) bytes → ⊥) → read_frame_of o points bytes ≡ FrameRefused Room
+    short begun none = by_room (frame_no_room (settings_for o) (length points) bytes) refl
       where
-        by-room : (t : Bool) → frameNoRoom (settingsFor o) (length points) bytes ≡ t → readFrameOf o points bytes ≡ FrameRefused Room
-        by-room true e = answer-by o begun points bytes true e
-        by-room false e = absurd (none (room-or-not o (length points) bytes e))
+        by_room : (t : Bool) → frame_no_room (settings_for o) (length points) bytes ≡ t → read_frame_of o points bytes ≡ FrameRefused Room
+        by_room true e = answer_by o begun points bytes true e
+        by_room false e = absurd (none (room_or_not o (length points) bytes e))

@@ -1,108 +1,102 @@
 -- A whole frame read from one slice of points: the reader started, and stepped over the symbols in order (demand 2 of a frame's slices). Its refusals: the
 -- settings', then 8, then the symbols' 9, 10, 11; a refusal writes nothing.
-use mathlib.Core.Bool.{Bool, cond, not, _||_}
-use mathlib.Core.List.{List}
-use Prim.Native.Nat.{ℕ, _*_}
-use lib.Dec.{eqb, ltb}
-use lib.ListN.{length, drop}
-use lib.IntN.{ℤ, pos}
-use lib.Ieee.{Float}
-use Rattle·laws.specs.Least.{firstFrom}
-use Rattle·settings.specs.declared.settings.Refusal.the-variants.{Room}
-use Rattle·settings.specs.declared.settings.Settings.{Settings}
-use Rattle·settings.specs.declared.settings.Checked.{Checked}
-use Rattle·settings.specs.declared.settings.Checked.the-variants.{Accepted, Refused}
-use Rattle·settings.specs.Settings.{numberOf, checkOf}
-use Rattle·symbols.specs.Symbols.{symbolsOf}
-use Rattle·frame.specs.Points.{floatsOf}
-use Rattle·reader_state.specs.declared.state.OpenSettings.{OpenSettings}
-use Rattle·acceptance.specs.declared.accept.StepAnswer.{StepAnswer}
-use Rattle·acceptance.specs.declared.accept.StepAnswer.the-variants.{First, Next, BadPoint, Refused as StepRefused}
-use Rattle·reader_state.specs.State.{openRaw}
-use Rattle·reader.specs.Step.{stepNumber, stepSeed}
-use Rattle·reader_runs.specs.Run.{answerTo, memoryBefore}
-use Rattle·reader_runs.specs.Sent.{settingsFor}
-use Rattle·frame_steps·specs.specs.declared.steps.FrameAnswer.{FrameAnswer}
-use Rattle·frame_steps·specs.specs.declared.steps.FrameAnswer.the-variants.{Read, BadPoint as BadPointAt, BadSymbol, Refused as FrameRefused}
+use Rattle.std.specs.Prelude.{Bool, cond, not, ◌||◌, List, ℕ, ◌*◌, eqb, ltb, length, drop, ℤ, pos, Float}
+use Rattle.laws.specs.Least.{first_from}
+use Rattle.settings.specs.declared.settings.Refusal.TheVariants.{Room}
+use Rattle.settings.specs.declared.settings.Settings.{Settings}
+use Rattle.settings.specs.declared.settings.Checked.{Checked}
+use Rattle.settings.specs.declared.settings.Checked.TheVariants.{Accepted, Refused}
+use Rattle.settings.specs.Settings.{number_of, check_of}
+use Rattle.symbols.specs.Symbols.{symbols_of}
+use Rattle.frame.specs.Points.{floats_of}
+use Rattle.reader_state.specs.declared.state.OpenSettings.{OpenSettings}
+use Rattle.acceptance.specs.declared.accept.StepAnswer.{StepAnswer}
+use Rattle.acceptance.specs.declared.accept.StepAnswer.TheVariants.{First, Next, BadPoint, Refused as StepRefused}
+use Rattle.reader_state.specs.State.{open_raw}
+use Rattle.reader.specs.Step.{step_number, step_seed}
+use Rattle.reader_runs.specs.Run.{answer_to, memory_before}
+use Rattle.reader_runs.specs.Sent.{settings_for}
+use Rattle.frame_steps.specs.declared.steps.FrameAnswer.{FrameAnswer}
+use Rattle.frame_steps.specs.declared.steps.FrameAnswer.TheVariants.{Read, BadPoint as BadPointAt, BadSymbol, Refused as FrameRefused}
 
 -- a frame's points stand symbol by symbol: those from symbol n on
-abbrev pub symbolAt : Settings → (points : List Float) (n : ℕ) → List Float
-symbolAt s points n = drop (n * floatsOf s) points
+abbrev pub symbol_at : Settings → (points : List Float) (n : ℕ) → List Float
+symbol_at s points n = drop (n * floats_of s) points
 
 -- the answer to symbol n where every step is lent the same payload slice
-abbrev pub answerAt : (o : OpenSettings) (points : List Float) (bytes n : ℕ) → StepAnswer
-answerAt o points bytes n = answerTo o (symbolAt (settingsFor o) points) (λ k. bytes) n
+abbrev pub answer_at : (o : OpenSettings) (points : List Float) (bytes n : ℕ) → StepAnswer
+answer_at o points bytes n = answer_to o (symbol_at (settings_for o) points) (λ k. bytes) n
 
 -- what that slice holds before symbol n
-abbrev pub memoryAt : (o : OpenSettings) (points : List Float) (n : ℕ) (payload : List ℕ) → List ℕ
-memoryAt o points n payload = memoryBefore o (symbolAt (settingsFor o) points) (λ k. length payload) n payload
+abbrev pub memory_at : (o : OpenSettings) (points : List Float) (n : ℕ) (payload : List ℕ) → List ℕ
+memory_at o points n payload = memory_before o (symbol_at (settings_for o) points) (λ k. length payload) n payload
 
 -- the first symbol that is refused; the count where none is
-unfoldable pub firstRefused : (o : OpenSettings) (points : List Float) (bytes : ℕ) → ℕ
-firstRefused o points bytes = firstFrom (λ n. not (eqb (stepNumber (answerAt o points bytes n)) 0)) 0 (symbolsOf (settingsFor o))
+unfoldable pub first_refused : (o : OpenSettings) (points : List Float) (bytes : ℕ) → ℕ
+first_refused o points bytes = first_from (λ n. not (eqb (step_number (answer_at o points bytes n)) 0)) 0 (symbols_of (settings_for o))
 
 -- a refused symbol's answer with the symbol's number; an accepted one is none
-abbrev pub refusedAs : (n : ℕ) → StepAnswer → FrameAnswer
-refusedAs n (First seed) = Read seed
-refusedAs n Next = Read 0
-refusedAs n (BadPoint i z) = BadPointAt n i z
-refusedAs n (StepRefused r) = BadSymbol n r
+abbrev pub refused_as : (n : ℕ) → StepAnswer → FrameAnswer
+refused_as n (First seed) = Read seed
+refused_as n Next = Read 0
+refused_as n (BadPoint i z) = BadPointAt n i z
+refused_as n (StepRefused r) = BadSymbol n r
 
 -- the first refusal, or "the seed is in the answer to symbol 0"
-abbrev pub symbolsAnswer : (o : OpenSettings) (points : List Float) (bytes : ℕ) → FrameAnswer
-symbolsAnswer o points bytes =
-    let first = firstRefused o points bytes in
-    cond (ltb first (symbolsOf (settingsFor o))) (refusedAs first (answerAt o points bytes first)) (Read (stepSeed (answerAt o points bytes 0)))
+abbrev pub symbols_answer : (o : OpenSettings) (points : List Float) (bytes : ℕ) → FrameAnswer
+symbols_answer o points bytes =
+    let first = first_refused o points bytes in
+    cond (ltb first (symbols_of (settings_for o))) (refused_as first (answer_at o points bytes first)) (Read (step_seed (answer_at o points bytes 0)))
 
 -- "the lent slice for points .. or payload is too short": for all symbols of the frame
-abbrev pub frameNoRoom : Settings → (floats bytes : ℕ) → Bool
-frameNoRoom s floats bytes = ltb floats (symbolsOf s * floatsOf s) || ltb bytes (s .length)
+abbrev pub frame_no_room : Settings → (floats bytes : ℕ) → Bool
+frame_no_room s floats bytes = ltb floats (symbols_of s * floats_of s) || ltb bytes s.length
 
-abbrev pub readFrameBy : Checked → OpenSettings → (points : List Float) (bytes : ℕ) → FrameAnswer
-readFrameBy (Accepted s) o points bytes = cond (frameNoRoom s (length points) bytes) (FrameRefused Room) (symbolsAnswer o points bytes)
-readFrameBy (Refused r) o points bytes = FrameRefused r
+abbrev pub read_frame_by : Checked → OpenSettings → (points : List Float) (bytes : ℕ) → FrameAnswer
+read_frame_by (Accepted s) o points bytes = cond (frame_no_room s (length points) bytes) (FrameRefused Room) (symbols_answer o points bytes)
+read_frame_by (Refused r) o points bytes = FrameRefused r
 
-abbrev pub readFrameOf : OpenSettings → (points : List Float) (bytes : ℕ) → FrameAnswer
-readFrameOf o points bytes = readFrameBy (checkOf (openRaw o)) o points bytes
+abbrev pub read_frame_of : OpenSettings → (points : List Float) (bytes : ℕ) → FrameAnswer
+read_frame_of o points bytes = read_frame_by (check_of (open_raw o)) o points bytes
 
 -- the lent payload afterwards: what the steps leave in it where every symbol is accepted, and on a refusal as it was
-abbrev pub frameIntoBy : FrameAnswer → (read : List ℕ) → List ℕ → List ℕ
-frameIntoBy (Read seed) read payload = read
-frameIntoBy (BadPointAt n i z) read payload = payload
-frameIntoBy (BadSymbol n r) read payload = payload
-frameIntoBy (FrameRefused r) read payload = payload
+abbrev pub frame_into_by : FrameAnswer → (read : List ℕ) → List ℕ → List ℕ
+frame_into_by (Read seed) read payload = read
+frame_into_by (BadPointAt n i z) read payload = payload
+frame_into_by (BadSymbol n r) read payload = payload
+frame_into_by (FrameRefused r) read payload = payload
 
-abbrev pub readFrameInto : OpenSettings → (points : List Float) (payload : List ℕ) → List ℕ
-readFrameInto o points payload =
-    frameIntoBy (readFrameOf o points (length payload)) (memoryAt o points (symbolsOf (settingsFor o)) payload) payload
+abbrev pub read_frame_into : OpenSettings → (points : List Float) (payload : List ℕ) → List ℕ
+read_frame_into o points payload =
+    frame_into_by (read_frame_of o points (length payload)) (memory_at o points (symbols_of (settings_for o)) payload) payload
 
 -- document 01's number of each case, 0 where the frame is read; the seed of each, and the symbol and the place that it names
-abbrev pub frameNumber : FrameAnswer → ℕ
-frameNumber (Read seed) = 0
-frameNumber (BadPointAt n i z) = 9
-frameNumber (BadSymbol n r) = numberOf r
-frameNumber (FrameRefused r) = numberOf r
+abbrev pub frame_number : FrameAnswer → ℕ
+frame_number (Read seed) = 0
+frame_number (BadPointAt n i z) = 9
+frame_number (BadSymbol n r) = number_of r
+frame_number (FrameRefused r) = number_of r
 
-abbrev pub frameSeed : FrameAnswer → ℕ
-frameSeed (Read seed) = seed
-frameSeed (BadPointAt n i z) = 0
-frameSeed (BadSymbol n r) = 0
-frameSeed (FrameRefused r) = 0
+abbrev pub frame_seed : FrameAnswer → ℕ
+frame_seed (Read seed) = seed
+frame_seed (BadPointAt n i z) = 0
+frame_seed (BadSymbol n r) = 0
+frame_seed (FrameRefused r) = 0
 
-abbrev pub frameSymbol : FrameAnswer → ℕ
-frameSymbol (Read seed) = 0
-frameSymbol (BadPointAt n i z) = n
-frameSymbol (BadSymbol n r) = n
-frameSymbol (FrameRefused r) = 0
+abbrev pub frame_symbol : FrameAnswer → ℕ
+frame_symbol (Read seed) = 0
+frame_symbol (BadPointAt n i z) = n
+frame_symbol (BadSymbol n r) = n
+frame_symbol (FrameRefused r) = 0
 
-abbrev pub frameStream : FrameAnswer → ℕ
-frameStream (Read seed) = 0
-frameStream (BadPointAt n i z) = i
-frameStream (BadSymbol n r) = 0
-frameStream (FrameRefused r) = 0
+abbrev pub frame_stream : FrameAnswer → ℕ
+frame_stream (Read seed) = 0
+frame_stream (BadPointAt n i z) = i
+frame_stream (BadSymbol n r) = 0
+frame_stream (FrameRefused r) = 0
 
-abbrev pub frameSubcarrier : FrameAnswer → ℤ
-frameSubcarrier (Read seed) = pos 0
-frameSubcarrier (BadPointAt n i z) = z
-frameSubcarrier (BadSymbol n r) = pos 0
-frameSubcarrier (FrameRefused r) = pos 0
+abbrev pub frame_subcarrier : FrameAnswer → ℤ
+frame_subcarrier (Read seed) = pos 0
+frame_subcarrier (BadPointAt n i z) = z
+frame_subcarrier (BadSymbol n r) = pos 0
+frame_subcarrier (FrameRefused r) = pos 0

@@ -1,11 +1,13 @@
 // The symbols of a whole frame read in order, from one slice of points.
+ghost use Rattle.frame_steps.specs.Asked.{SymbolsAsked, SymbolsRead};
+
 use acceptance::accept::StepAnswer;
 use reader::step::step;
 use reader_state::state::Reader;
 use settings::settings::Refusal;
-ghost use Rattle·frame_steps·specs.specs.Asked.{SymbolsAsked, SymbolsRead};
 
 // The seed; the symbol, stream and subcarrier of the first point that fails; the symbol that 10 or 11 refuses; or the settings' refusal or 8.
+#[derive(Drop)]
 pub enum FrameAnswer {
     Read(u8),
     BadPoint(u64, u8, i32),
@@ -21,8 +23,8 @@ pub fn read_symbols(
     points: &[f32],
     payload: &mut [u8],
 ) -> FrameAnswer
-    requires { ⌜ SymbolsAsked reader count floats (now points) (now payload) ⌝ }
-    ensures { λ r. ⌜ SymbolsRead reader (now (points .entry)) r (now (payload .entry)) (now (payload .exit)) ⌝ }
+    requires { SymbolsAsked reader count floats points.now payload.old }
+    ensures { SymbolsRead reader points.now result payload.old payload.new }
 {
     let mut state = reader;
     let mut seed: u8 = 0;

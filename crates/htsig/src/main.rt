@@ -1,10 +1,7 @@
 // Reads MCS, width and length line by line from standard input and lists symbol counts and HT-SIG bytes.
 // The decisions, the lines and the rows are the library's; this program only reads and writes.
-use libc::STDIN_FILENO;
-use libc::STDOUT_FILENO;
-use lines::lines::NextLine;
-use lines::lines::next_line;
-use lines::lines::too_long;
+use libc::{STDIN_FILENO, STDOUT_FILENO};
+use lines::lines::{NextLine, next_line, too_long};
 use listing::rows;
 use text::printing;
 

@@ -1,16 +1,15 @@
 // The encoders' input line from any place on: histories, service, payload, tail and pad.
+ghost use Rattle.std.specs.Prelude.{◌+◌, ◌≤◌, length, get_or};
+ghost use Rattle.std.specs.Int.Bits.{bit_xor};
+ghost use Rattle.laws.specs.Filled.{Filled};
+ghost use Rattle.chain.specs.DataBits.{payload_bit, coder_input};
+ghost use Rattle.chain.specs.Encoder.{with_history};
+ghost use Rattle.inputs.specs.Asked.{InputsAsked, AddAsked, MixAsked, ScrambledAsked, mixed_bit};
+
 use chain::plan::MOST_LINE;
-use data_bits::bits::below_mark;
-use data_bits::bits::data_bits;
+use data_bits::bits::{below_mark, data_bits};
 use scrambler::outputs::scrambler_outputs;
 use scrambler::register::jump;
-ghost use Prim.Native.Nat.{_+_, _≤_};
-ghost use lib.Bits.{bitXor};
-ghost use lib.ListN.{length, getD};
-ghost use Rattle·laws.specs.Filled.{Filled};
-ghost use Rattle·chain.specs.DataBits.{payloadBit, coderInput};
-ghost use Rattle·chain.specs.Encoder.{withHistory};
-ghost use Rattle·inputs·specs.specs.Asked.{InputsAsked, AddAsked, MixAsked, ScrambledAsked, mixedBit};
 
 // Data bits from one place on, and on each a scrambler output from another place on.
 fn add_outputs(
@@ -22,8 +21,8 @@ fn add_outputs(
     from: usize,
     count: usize,
 )
-    requires { ⌜ AddAsked (now line) (now raw) (now outputs) to at from count ⌝ }
-    ensures { λ _. ⌜ Filled 0 to (λ t. bitXor (getD (now (raw .entry)) (at + t) 0) (getD (now (outputs .entry)) (from + t) 0)) count (now (line .entry)) (now (line .exit)) ⌝ }
+    requires { AddAsked line.old raw.now outputs.now to at from count }
+    ensures { Filled 0 to (λ t. bit_xor (get_or raw.now (at + t) 0) (get_or outputs.now (from + t) 0)) count line.old line.new }
 {
     let mut t: usize = 0;
     while t < count {
@@ -34,8 +33,8 @@ fn add_outputs(
 
 // Zeros from a place on.
 fn clear(line: &mut [u8], to: usize, count: usize)
-    requires { ⌜ (to + count ≤ length (now line)) × (to + count ≤ 2172) ⌝ }
-    ensures { λ _. ⌜ Filled 0 to (λ t. 0) count (now (line .entry)) (now (line .exit)) ⌝ }
+    requires { (to + count ≤ length line.old) × (to + count ≤ 2172) }
+    ensures { Filled 0 to (λ t. 0) count line.old line.new }
 {
     let mut t: usize = 0;
     while t < count {
@@ -55,8 +54,8 @@ fn mix(
     pad: usize,
     count: usize,
 )
-    requires { ⌜ MixAsked (now line) (now raw) (now outputs) to skip tail pad count ⌝ }
-    ensures { λ _. ⌜ Filled 0 to (λ t. mixedBit (λ j. getD (now (raw .entry)) (skip + j) 0) (λ j. getD (now (outputs .entry)) j 0) tail pad t) count (now (line .entry)) (now (line .exit)) ⌝ }
+    requires { MixAsked line.old raw.now outputs.now to skip tail pad count }
+    ensures { Filled 0 to (λ t. mixed_bit (λ j. get_or raw.now (skip + j) 0) (λ j. get_or outputs.now j 0) tail pad t) count line.old line.new }
 {
     add_outputs(line, raw, outputs, to, skip, 0, tail);
     clear(line, to + tail, pad - tail);
@@ -74,8 +73,8 @@ fn scrambled_inputs(
     start: usize,
     count: usize,
 )
-    requires { ⌜ ScrambledAsked (now line) (now payload) bytes encoders seed to start count ⌝ }
-    ensures { λ _. ⌜ Filled 0 to (λ t. coderInput (payloadBit (now (payload .entry))) bytes encoders seed (start + t)) count (now (line .entry)) (now (line .exit)) ⌝ }
+    requires { ScrambledAsked line.old payload.now bytes encoders seed to start count }
+    ensures { Filled 0 to (λ t. coder_input (payload_bit payload.now) bytes encoders seed (start + t)) count line.old line.new }
 {
     let mut raw = [0u8; 2184];
     let mut outputs = [0u8; MOST_LINE];
@@ -97,8 +96,8 @@ pub fn coder_inputs(
     first: usize,
     count: usize,
 )
-    requires { ⌜ InputsAsked (now line) (now payload) bytes encoders seed first count ⌝ }
-    ensures { λ _. ⌜ Filled 0 0 (λ j. withHistory (coderInput (payloadBit (now (payload .entry))) bytes encoders seed) encoders (first + j)) count (now (line .entry)) (now (line .exit)) ⌝ }
+    requires { InputsAsked line.old payload.now bytes encoders seed first count }
+    ensures { Filled 0 0 (λ j. with_history (coder_input (payload_bit payload.now) bytes encoders seed) encoders (first + j)) count line.old line.new }
 {
     let head = below_mark(6 * encoders, first, count);
     let start = first + head - 6 * encoders;

@@ -1,63 +1,63 @@
 -- A loop that fills a list by an index function, one store a turn.
-use mathlib.Core.Path.{_≡_, _∙_, refl, sym, ap, subst}
+use mathlib.Core.Path.{◌≡◌, ◌∙◌, refl, sym, ap, subst}
 use mathlib.Core.List.{List}
-use mathlib.Core.Logic.{⊎-elim}
-use Prim.Native.Nat.{ℕ, _+_, _-_, _<_, _≤_}
+use mathlib.Core.Logic.{⊎_elim}
+use Prim.Native.Nat.{ℕ, ◌+◌, ◌-◌, ◌<◌, ◌≤◌}
 use native.Mathlib.Nat.{not-suc-le-zero, zero-add}
 use native.Mathlib.Omega.{arith}
-use lib.ListN.{length, getD, set, length-set}
-use lib.Seq.{getD-set-same, getD-set-other}
-use borrow.Author.Count.{below-more}
-use Rattle·laws·specs.specs.Filled.{Filled}
-use Rattle·laws·proofs.proofs.Search.{lt-or-le}
+use lib.ListN.{length, get_or, set, length-set}
+use lib.Seq.{get_or-set_same, get_or-set_other}
+use borrow.Author.Count.{below_more}
+use Rattle.laws.specs.Filled.{Filled}
+use Rattle.laws.proofs.Search.{lt_or_le}
 
 module _ {A : Type 0} (z : A) (a : ℕ) (f : ℕ → A) where
   -- before the first turn
-  pub fill-none : (d : List A) → Filled z a f 0 d d
-  fill-none d = record { same = refl; done = λ i h. absurd (not-suc-le-zero h); before = λ i h. refl; after = λ i h. refl }
+  pub fill_none : (d : List A) → Filled z a f 0 d d
+  fill_none d = record { same = refl; done = λ i h. absurd (not-suc-le-zero h); before = λ i h. refl; after = λ i h. refl }
 
   -- a turn: the store of f n at the next place
-  pub fill-more : (n : ℕ) (d₀ d : List A) (k : ℕ) (v : A) → k ≡ a + n → a + n < length d₀ → v ≡ f n → Filled z a f n d₀ d → Filled z a f (n + 1) d₀ (set d k v)
-  fill-more n d₀ d k v e h g p =
+  pub fill_more : (n : ℕ) (d₀ d : List A) (k : ℕ) (v : A) → k ≡ a + n → a + n < length d₀ → v ≡ f n → Filled z a f n d₀ d → Filled z a f (n + 1) d₀ (set d k v)
+  fill_more n d₀ d k v e h g p =
       record {
-        same = length-set d k v ∙ p .same;
-        done = below-more (λ (i : ℕ). getD (set d k v) (a + i) z ≡ f i) n
-            (λ i l. getD-set-other d k (a + i) v z (omega arith) ∙ p .done i l)
-            (ap (λ (j : ℕ). getD (set d k v) j z) (sym e) ∙ getD-set-same d k v z (omega (arith, p .same)) ∙ g);
-        before = λ i l. getD-set-other d k i v z (omega arith) ∙ p .before i l;
-        after = λ i l. getD-set-other d k i v z (omega arith) ∙ p .after i (omega arith);
+        same = length-set d k v ∙ p.same;
+        done = below_more (λ (i : ℕ). get_or (set d k v) (a + i) z ≡ f i) n
+            (λ i l. get_or-set_other d k (a + i) v z (omega arith) ∙ p.done i l)
+            (ap (λ (j : ℕ). get_or (set d k v) j z) (sym e) ∙ get_or-set_same d k v z (omega (arith, p.same)) ∙ g);
+        before = λ i l. get_or-set_other d k i v z (omega arith) ∙ p.before i l;
+        after = λ i l. get_or-set_other d k i v z (omega arith) ∙ p.after i (omega arith);
       }
 
   -- another function with the same values
-  pub fill-as : (g : ℕ → A) (n : ℕ) (d₀ d : List A) → ((i : ℕ) → i < n → f i ≡ g i) → Filled z a f n d₀ d → Filled z a g n d₀ d
-  fill-as g n d₀ d e p = record { same = p .same; done = λ i l. p .done i l ∙ e i l; before = p .before; after = p .after }
+  pub fill_as : (g : ℕ → A) (n : ℕ) (d₀ d : List A) → ((i : ℕ) → i < n → f i ≡ g i) → Filled z a f n d₀ d → Filled z a g n d₀ d
+  fill_as g n d₀ d e p = record { same = p.same; done = λ i l. p.done i l ∙ e i l; before = p.before; after = p.after }
 
   -- the count by another name, as at the loop's end
-  pub fill-end : {n m : ℕ} {d₀ d : List A} → n ≡ m → Filled z a f n d₀ d → Filled z a f m d₀ d
-  fill-end {d₀ = d₀} {d = d} e p = subst (λ (k : ℕ). Filled z a f k d₀ d) e p
+  pub fill_end : {n m : ℕ} {d₀ d : List A} → n ≡ m → Filled z a f n d₀ d → Filled z a f m d₀ d
+  fill_end {d₀ = d₀} {d = d} e p = subst (λ (k : ℕ). Filled z a f k d₀ d) e p
 
 -- the start by another name
-pub fill-from : {A : Type 0} (z : A) (f : ℕ → A) {a b n : ℕ} {d₀ d : List A} → a ≡ b → Filled z a f n d₀ d → Filled z b f n d₀ d
-fill-from z f {n = n} {d₀ = d₀} {d = d} e p = subst (λ (k : ℕ). Filled z k f n d₀ d) e p
+pub fill_from : {A : Type 0} (z : A) (f : ℕ → A) {a b n : ℕ} {d₀ d : List A} → a ≡ b → Filled z a f n d₀ d → Filled z b f n d₀ d
+fill_from z f {n = n} {d₀ = d₀} {d = d} e p = subst (λ (k : ℕ). Filled z k f n d₀ d) e p
 
 -- an element, where the part starts at 0
-pub fill-at : {A : Type 0} (z : A) (f : ℕ → A) {n : ℕ} {d₀ d : List A} → Filled z 0 f n d₀ d → (i : ℕ) → i < n → getD d i z ≡ f i
-fill-at z f {d = d} p i h = ap (λ (j : ℕ). getD d j z) (sym (zero-add i)) ∙ p .done i h
+pub fill_at : {A : Type 0} (z : A) (f : ℕ → A) {n : ℕ} {d₀ d : List A} → Filled z 0 f n d₀ d → (i : ℕ) → i < n → get_or d i z ≡ f i
+fill_at z f {d = d} p i h = ap (λ (j : ℕ). get_or d j z) (sym (zero-add i)) ∙ p.done i h
 
 -- a part, and then the part after it
-pub fill-join : {A : Type 0} (z : A) (a : ℕ) (f : ℕ → A) (n m : ℕ) (d₀ d d' : List A)
+pub fill_join : {A : Type 0} (z : A) (a : ℕ) (f : ℕ → A) (n m : ℕ) (d₀ d d' : List A)
     → Filled z a f n d₀ d → Filled z (a + n) (λ i. f (n + i)) m d d' → Filled z a f (n + m) d₀ d'
-fill-join z a f n m d₀ d d' p q = record {
-  same = q .same ∙ p .same;
-  done = λ i l. ⊎-elim
-      (λ (h : i < n). q .before (a + i) (omega arith) ∙ p .done i h)
+fill_join z a f n m d₀ d d' p q = record {
+  same = q.same ∙ p.same;
+  done = λ i l. ⊎_elim
+      (λ (h : i < n). q.before (a + i) (omega arith) ∙ p.done i h)
       (λ (h : n ≤ i).
-      ap (λ (j : ℕ). getD d' j z) (omega arith) ∙ q .done (i - n) (omega arith) ∙ ap f (omega arith))
-      (lt-or-le i n);
-  before = λ i l. q .before i (omega arith) ∙ p .before i l;
-  after = λ i l. q .after i (omega arith) ∙ p .after i (omega arith);
+      ap (λ (j : ℕ). get_or d' j z) (omega arith) ∙ q.done (i - n) (omega arith) ∙ ap f (omega arith))
+      (lt_or_le i n);
+  before = λ i l. q.before i (omega arith) ∙ p.before i l;
+  after = λ i l. q.after i (omega arith) ∙ p.after i (omega arith);
 }
 
 -- elements are small where the function's values are
-pub fill-small : {f : ℕ → ℕ} {n bound : ℕ} {d₀ d : List ℕ} → Filled 0 0 f n d₀ d → ((i : ℕ) → f i < bound) → (i : ℕ) → i < n → getD d i 0 < bound
-fill-small {f} {bound = bound} p small i h = subst (λ (v : ℕ). v < bound) (sym (fill-at 0 f p i h)) (small i)
+pub fill_small : {f : ℕ → ℕ} {n bound : ℕ} {d₀ d : List ℕ} → Filled 0 0 f n d₀ d → ((i : ℕ) → f i < bound) → (i : ℕ) → i < n → get_or d i 0 < bound
+fill_small {f} {bound = bound} p small i h = subst (λ (v : ℕ). v < bound) (sym (fill_at 0 f p i h)) (small i)

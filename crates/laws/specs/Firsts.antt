@@ -1,6 +1,5 @@
 -- A list by an index function.
-use mathlib.Core.List.{List, [], _∷_}
-use Prim.Native.Nat.{ℕ, zero, suc}
+use Rattle.std.specs.Prelude.{List, [], ◌∷◌, ℕ, zero, suc}
 
 -- f 0, .., f (n - 1)
 abbrev pub firsts : {A : Type 0} (f : ℕ → A) (n : ℕ) → List A

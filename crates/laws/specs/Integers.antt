@@ -1,14 +1,11 @@
 -- Whole numbers with a sign, as computed tests need them.
-use mathlib.Core.Bool.{Bool}
-use Prim.Native.Nat.{ℕ, _+_, _*_}
-use lib.Dec.{eqb}
-use lib.IntN.{ℤ, pos, negsuc, negℤ}
+use Rattle.std.specs.Prelude.{Bool, ℕ, ◌+◌, ◌*◌, eqb, ℤ, pos, negsuc, neg_ℤ}
 
 -- - n
 abbrev pub minus : ℕ → ℤ
-minus n = negℤ (pos n)
+minus n = neg_ℤ (pos n)
 
--- 0, -1, 1, -2, 2, .. by their number in this order: two whole numbers are equal exactly where their numbers are (`counted-same`)
+-- 0, -1, 1, -2, 2, .. by their number in this order: two whole numbers are equal exactly where their numbers are (`counted_same`)
 abbrev pub counted : ℤ → ℕ
 counted (pos n) = 2 * n
 counted (negsuc n) = 2 * n + 1

@@ -1,7 +1,5 @@
 -- How far a test goes along a list.
-use mathlib.Core.Bool.{Bool, cond}
-use mathlib.Core.List.{List, [], _∷_}
-use Prim.Native.Nat.{ℕ, suc}
+use Rattle.std.specs.Prelude.{Bool, cond, List, [], ◌∷◌, ℕ, suc}
 
 -- how many numbers at the front pass a test, up to the first that does not
 abbrev pub stretch : (ℕ → Bool) → List ℕ → ℕ

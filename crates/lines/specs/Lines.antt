@@ -1,30 +1,26 @@
 -- Lines: "Each line, ended by a line feed or the end (an empty rest at the end is no line)" (document 01, 'Checked by hand').
-use mathlib.Core.Bool.{Bool, cond, not}
-use mathlib.Core.List.{List, [], _∷_, _++_}
-use Prim.Native.Nat.{ℕ, _+_}
-use lib.Dec.{eqb, ltb}
-use lib.ListN.{length, drop}
-use Rattle·laws.specs.Stretch.{stretch}
-use Rattle·lines·specs.specs.declared.lines.NextLine.{NextLine}
-use Rattle·lines·specs.specs.declared.lines.NextLine.the-variants.{Line, End}
+use Rattle.std.specs.Prelude.{Bool, cond, not, List, [], ◌∷◌, ◌++◌, ℕ, ◌+◌, eqb, ltb, length, drop}
+use Rattle.laws.specs.Stretch.{stretch}
+use Rattle.lines.specs.declared.lines.NextLine.{NextLine}
+use Rattle.lines.specs.declared.lines.NextLine.TheVariants.{Line, End}
 
 -- the lines of a text, where `line` is what the line under way has so far
-abbrev pub linesFrom : List ℕ → List ℕ → List (List ℕ)
-linesFrom [] [] = []
-linesFrom (c ∷ cs) [] = (c ∷ cs) ∷ []
-linesFrom [] (b ∷ bs) = cond (eqb b 10) ([] ∷ linesFrom [] bs) (linesFrom (b ∷ []) bs)
-linesFrom (c ∷ cs) (b ∷ bs) = cond (eqb b 10) ((c ∷ cs) ∷ linesFrom [] bs) (linesFrom ((c ∷ cs) ++ (b ∷ [])) bs)
+abbrev pub lines_from : List ℕ → List ℕ → List (List ℕ)
+lines_from [] [] = []
+lines_from (c ∷ cs) [] = (c ∷ cs) ∷ []
+lines_from [] (b ∷ bs) = cond (eqb b 10) ([] ∷ lines_from [] bs) (lines_from (b ∷ []) bs)
+lines_from (c ∷ cs) (b ∷ bs) = cond (eqb b 10) ((c ∷ cs) ∷ lines_from [] bs) (lines_from ((c ∷ cs) ++ (b ∷ [])) bs)
 
-abbrev pub linesOf : List ℕ → List (List ℕ)
-linesOf text = linesFrom [] text
+abbrev pub lines_of : List ℕ → List (List ℕ)
+lines_of text = lines_from [] text
 
 -- every byte but the line feed
-abbrev pub isInLine : ℕ → Bool
-isInLine b = not (eqb b 10)
+abbrev pub is_in_line : ℕ → Bool
+is_in_line b = not (eqb b 10)
 
 -- the line that starts at a place: up to the line feed or the end, and the next from behind it
-abbrev pub nextLineOf : List ℕ → ℕ → NextLine
-nextLineOf text at =
+abbrev pub next_line_of : List ℕ → ℕ → NextLine
+next_line_of text at =
     cond (ltb at (length text))
-    (Line at (at + stretch isInLine (drop at text)) (at + stretch isInLine (drop at text) + 1))
+    (Line at (at + stretch is_in_line (drop at text)) (at + stretch is_in_line (drop at text) + 1))
     End

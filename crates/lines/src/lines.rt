@@ -1,19 +1,17 @@
 // The input's size, and its lines.
-ghost use mathlib.Core.Path.{_≡_};
-ghost use Prim.Native.Nat.{_+_, _≤_};
-ghost use lib.Dec.{ltb};
-ghost use lib.ListN.{length, drop};
-ghost use Rattle·laws.specs.Stretch.{stretch};
-ghost use Rattle·lines·specs.specs.Lines.{isInLine, nextLineOf};
+ghost use Rattle.std.specs.Prelude.{◌≡◌, ◌+◌, ◌≤◌, ltb, length, drop};
+ghost use Rattle.laws.specs.Stretch.{stretch};
+ghost use Rattle.lines.specs.Lines.{is_in_line, next_line_of};
 
 // Whether the input has more than the 65,536 bytes that are read.
 pub fn too_long(input: &[u8]) -> bool
-    ensures { λ r. ⌜ r ≡ ltb 65536 (length (now (input .entry))) ⌝ }
+    ensures { result ≡ ltb 65536 (length input.now) }
 {
     input.len() > 65536
 }
 
 // A line stands from `start` up to `end`; the one after it is looked for from `next` on.
+#[derive(Drop)]
 pub enum NextLine {
     Line {
         start: usize,
@@ -24,15 +22,15 @@ pub enum NextLine {
 }
 
 fn is_in_line(b: u8) -> bool
-    ensures { λ r. ⌜ r ≡ isInLine b ⌝ }
+    ensures { result ≡ is_in_line b }
 {
     b != 10
 }
 
 // The first line feed at `at` or later, or the end of the input.
 fn line_end(input: &[u8], at: usize) -> usize
-    requires { ⌜ at ≤ length (now input) ⌝ }
-    ensures { λ r. ⌜ (r ≡ at + stretch isInLine (drop at (now (input .entry)))) × (r ≤ length (now (input .entry))) ⌝ }
+    requires { at ≤ length input.now }
+    ensures { (result ≡ at + stretch is_in_line (drop at input.now)) × (result ≤ length input.now) }
 {
     let mut i = at;
     while i < input.len() {
@@ -47,7 +45,7 @@ fn line_end(input: &[u8], at: usize) -> usize
 
 // The line that starts at `at`. An empty rest at the end of the input is no line.
 pub fn next_line(input: &[u8], at: usize) -> NextLine
-    ensures { λ r. ⌜ r ≡ nextLineOf (now (input .entry)) at ⌝ }
+    ensures { result ≡ next_line_of input.now at }
 {
     let inside = at < input.len();
     if !inside {

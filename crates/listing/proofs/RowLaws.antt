@@ -1,134 +1,134 @@
 -- The rows of lines: their parts as they are pushed, and how long they are. Assumes nothing.
-use mathlib.Core.Path.{_≡_, refl, sym, ap, subst, _∙_}
-use mathlib.Core.List.{List, [], _∷_, _++_, append-nil}
-use Prim.Native.Nat.{ℕ, _+_, _-_, _*_, _<_, _≤_}
+use mathlib.Core.Path.{◌≡◌, refl, sym, ap, subst, ◌∙◌}
+use mathlib.Core.List.{List, [], ◌∷◌, ◌++◌, append-nil}
+use Prim.Native.Nat.{ℕ, ◌+◌, ◌-◌, ◌*◌, ◌<◌, ◌≤◌}
 use native.Mathlib.Omega.{arith}
 use lib.ListN.{length, length-append, replicate}
-use Rattle·settings.specs.declared.settings.RawSettings.{RawSettings}
-use Rattle·settings.specs.declared.settings.Refusal.{Refusal}
-use Rattle·settings.specs.declared.settings.Checked.{Checked}
-use Rattle·settings.specs.declared.settings.Checked.the-variants.{Accepted, Refused}
-use Rattle·symbols.specs.declared.count.Count.the-variants.{Symbols, Refused as CountRefused}
-use Rattle·settings.specs.Settings.{checkOf, numberOf}
-use Rattle·symbols.specs.Symbols.{symbolsOf, countOf}
-use Rattle·signal.specs.HtSig.{writtenInto}
-use Rattle·settings.proofs.SettingsLaws.{right}
-use Rattle·symbols.proofs.CountLaws.{symbols-few}
-use Rattle·signal.proofs.HtSigLaws.{rest-stays, six-length}
-use Rattle·parsing.specs.declared.numbers.Parsed.{Parsed}
-use Rattle·parsing.specs.declared.numbers.Parsed.the-variants.{Numbers, Malformed}
-use Rattle·text.specs.declared.printing.Row.{Row}
-use Rattle·parsing.specs.Parsing.{parsedOf, FiveDigits}
-use Rattle·text.specs.Printing.{rowHolding, emptyRow, pushed, pushedAll, decimal, hexBytes}
-use Rattle·listing·specs.specs.Rows.{rawFor, inputsText, refusedWord, refusedText, acceptedText, answerText, rowFor, malformedText, rowBy, rowOf, zeros}
-use Rattle·text.proofs.Decimals.{decimal-short}
-use Rattle·text.proofs.Pushing.{pushed-all-append, pushed-all-len, pushed-all-holding}
+use Rattle.settings.specs.declared.settings.RawSettings.{RawSettings}
+use Rattle.settings.specs.declared.settings.Refusal.{Refusal}
+use Rattle.settings.specs.declared.settings.Checked.{Checked}
+use Rattle.settings.specs.declared.settings.Checked.TheVariants.{Accepted, Refused}
+use Rattle.symbols.specs.declared.count.Count.TheVariants.{Symbols, Refused as CountRefused}
+use Rattle.settings.specs.Settings.{check_of, number_of}
+use Rattle.symbols.specs.Symbols.{symbols_of, count_of}
+use Rattle.signal.specs.HtSig.{written_into}
+use Rattle.settings.proofs.SettingsLaws.{right}
+use Rattle.symbols.proofs.CountLaws.{symbols_few}
+use Rattle.signal.proofs.HtSigLaws.{rest_stays, six_length}
+use Rattle.parsing.specs.declared.numbers.Parsed.{Parsed}
+use Rattle.parsing.specs.declared.numbers.Parsed.TheVariants.{Numbers, Malformed}
+use Rattle.text.specs.declared.printing.Row.{Row}
+use Rattle.parsing.specs.Parsing.{parsed_of, FiveDigits}
+use Rattle.text.specs.Printing.{row_holding, empty_row, pushed, pushed_all, decimal, hex_bytes}
+use Rattle.listing.specs.Rows.{raw_for, inputs_text, refused_word, refused_text, accepted_text, answer_text, row_for, malformed_text, row_by, row_of, zeros}
+use Rattle.text.proofs.Decimals.{decimal_short}
+use Rattle.text.proofs.Pushing.{pushed_all_append, pushed_all_len, pushed_all_holding}
 
 -- ---- how long a row is after a push
 
-pub hex-length : (l : List ℕ) → length (hexBytes l) ≡ 2 * length l
-hex-length [] = refl
-hex-length (b ∷ bs) = omega (arith, hex-length bs)
+pub hex_length : (l : List ℕ) → length (hex_bytes l) ≡ 2 * length l
+hex_length [] = refl
+hex_length (b ∷ bs) = omega (arith, hex_length bs)
 
-pub size : {r q : Row} → r ≡ q → r .len ≡ q .len
-size e = ap (λ (x : Row). x .len) e
+pub size : {r q : Row} → r ≡ q → r.len ≡ q.len
+size e = ap (λ (x : Row). x.len) e
 
-pub hex-size : {r : Row} (q : Row) (l : List ℕ) → r ≡ pushedAll q (hexBytes l) → r .len ≡ q .len + 2 * length l
-hex-size q l e = size e ∙ pushed-all-len q (hexBytes l) ∙ ap (λ (n : ℕ). q .len + n) (hex-length l)
+pub hex_size : {r : Row} (q : Row) (l : List ℕ) → r ≡ pushed_all q (hex_bytes l) → r.len ≡ q.len + 2 * length l
+hex_size q l e = size e ∙ pushed_all_len q (hex_bytes l) ∙ ap (λ (n : ℕ). q.len + n) (hex_length l)
 
 -- ---- the parts as they are pushed
 
-pub inputs-pushed : (z e a a1 b b1 c r : Row) (m w n : ℕ) → e ≡ z → a ≡ pushedAll e (decimal m) → a1 ≡ pushed a 32
-    → b ≡ pushedAll a1 (decimal w) → b1 ≡ pushed b 32 → c ≡ pushedAll b1 (decimal n) → r ≡ pushed c 32
-    → r ≡ pushedAll z (inputsText m w n)
-inputs-pushed z e a a1 b b1 c r m w n ee ea ea1 eb eb1 ec er = rw (er, ec, eb1, eb, ea1, ea, ee) (simp pushed-all-append)
+pub inputs_pushed : (z e a a1 b b1 c r : Row) (m w n : ℕ) → e ≡ z → a ≡ pushed_all e (decimal m) → a1 ≡ pushed a 32
+    → b ≡ pushed_all a1 (decimal w) → b1 ≡ pushed b 32 → c ≡ pushed_all b1 (decimal n) → r ≡ pushed c 32
+    → r ≡ pushed_all z (inputs_text m w n)
+inputs_pushed z e a a1 b b1 c r m w n ee ea ea1 eb eb1 ec er = rw (er, ec, eb1, eb, ea1, ea, ee) (simp pushed_all_append)
 
-pub refused-pushed : (z a b r : Row) (k : ℕ) (q : Refusal) → a ≡ pushedAll z refusedWord → k ≡ numberOf q → b ≡ pushedAll a (decimal k) → r ≡ pushed b 10
-    → r ≡ pushedAll z (refusedText q)
-refused-pushed z a b r k q ea ek eb er = rw (er, eb, ea, ek) (simp pushed-all-append)
+pub refused_pushed : (z a b r : Row) (k : ℕ) (q : Refusal) → a ≡ pushed_all z refused_word → k ≡ number_of q → b ≡ pushed_all a (decimal k) → r ≡ pushed b 10
+    → r ≡ pushed_all z (refused_text q)
+refused_pushed z a b r k q ea ek eb er = rw (er, eb, ea, ek) (simp pushed_all_append)
 
-pub accepted-pushed : (z a b c r : Row) (k : ℕ) (sig : List ℕ) → a ≡ pushedAll z (decimal k) → b ≡ pushed a 32 → c ≡ pushedAll b (hexBytes sig) → r ≡ pushed c 10
-    → r ≡ pushedAll z (acceptedText k sig)
-accepted-pushed z a b c r k sig ea eb ec er = rw (er, ec, eb, ea) (simp pushed-all-append)
+pub accepted_pushed : (z a b c r : Row) (k : ℕ) (sig : List ℕ) → a ≡ pushed_all z (decimal k) → b ≡ pushed a 32 → c ≡ pushed_all b (hex_bytes sig) → r ≡ pushed c 10
+    → r ≡ pushed_all z (accepted_text k sig)
+accepted_pushed z a b c r k sig ea eb ec er = rw (er, ec, eb, ea) (simp pushed_all_append)
 
 -- ---- the answer by the count
 
 -- a count has at most five digits
-pub count-small : (a : RawSettings) (k : ℕ) → Symbols k ≡ countOf (checkOf a) → k < 100000
-count-small a k = by (checkOf a) refl
+pub count_small : (a : RawSettings) (k : ℕ) → Symbols k ≡ count_of (check_of a) → k < 100000
+count_small a k = by (check_of a) refl
   where
-    by : (x : Checked) → checkOf a ≡ x → Symbols k ≡ countOf x → k < 100000
+    by : (x : Checked) → check_of a ≡ x → Symbols k ≡ count_of x → k < 100000
     by (Accepted s) p e =
-        let z : k ≡ symbolsOf s = cc in
-        omega (arith, symbols-few s (right a s p))
-    by (Refused r) p e = let z : _≡_ {A = ℕ} 0 1 = cc in absurd (omega arith)
+        let z : k ≡ symbols_of s = cc in
+        omega (arith, symbols_few s (right a s p))
+    by (Refused r) p e = let z : ◌≡◌ {A = ℕ} 0 1 = cc in absurd (omega arith)
 
-pub six-bytes : (x : Checked) (sig : List ℕ) → sig ≡ writtenInto x zeros → length sig ≡ 6
-six-bytes x sig e = ap length e ∙ rest-stays x zeros .1
+pub six_bytes : (x : Checked) (sig : List ℕ) → sig ≡ written_into x zeros → length sig ≡ 6
+six_bytes x sig e = ap length e ∙ (rest_stays x zeros).1
 
-accepted-answer : (x : Checked) (k : ℕ) → Symbols k ≡ countOf x → acceptedText k (writtenInto x zeros) ≡ answerText x
-accepted-answer (Accepted s) k e =
-    let z : k ≡ symbolsOf s = cc in
+accepted_answer : (x : Checked) (k : ℕ) → Symbols k ≡ count_of x → accepted_text k (written_into x zeros) ≡ answer_text x
+accepted_answer (Accepted s) k e =
+    let z : k ≡ symbols_of s = cc in
     rw (z, append-nil)
-accepted-answer (Refused r) k e = let z : _≡_ {A = ℕ} 0 1 = cc in absurd (omega arith)
+accepted_answer (Refused r) k e = let z : ◌≡◌ {A = ℕ} 0 1 = cc in absurd (omega arith)
 
-refused-answer : (x : Checked) (q : Refusal) → CountRefused q ≡ countOf x → refusedText q ≡ answerText x
-refused-answer (Accepted s) q e = let z : _≡_ {A = ℕ} 0 1 = cc in absurd (omega arith)
-refused-answer (Refused r) q e =
+refused_answer : (x : Checked) (q : Refusal) → CountRefused q ≡ count_of x → refused_text q ≡ answer_text x
+refused_answer (Accepted s) q e = let z : ◌≡◌ {A = ℕ} 0 1 = cc in absurd (omega arith)
+refused_answer (Refused r) q e =
     let z : q ≡ r = cc in
-    ap refusedText z
+    ap refused_text z
 
-module _ (z i r : Row) (m w n : ℕ) (a : RawSettings) (ei : i ≡ pushedAll z (inputsText m w n)) (ea : a ≡ rawFor m w n) where
-  behind : (t : List ℕ) → r ≡ pushedAll i t → t ≡ answerText (checkOf a) → r ≡ pushedAll z (rowFor m w n)
+module _ (z i r : Row) (m w n : ℕ) (a : RawSettings) (ei : i ≡ pushed_all z (inputs_text m w n)) (ea : a ≡ raw_for m w n) where
+  behind : (t : List ℕ) → r ≡ pushed_all i t → t ≡ answer_text (check_of a) → r ≡ pushed_all z (row_for m w n)
   behind t e k =
-      e ∙ ap (λ (x : Row). pushedAll x t) ei
-      ∙ sym (pushed-all-append z (inputsText m w n) t)
-      ∙ ap (λ (x : List ℕ). pushedAll z (inputsText m w n ++ x)) (k ∙ ap (λ (x : RawSettings). answerText (checkOf x)) ea)
+      e ∙ ap (λ (x : Row). pushed_all x t) ei
+      ∙ sym (pushed_all_append z (inputs_text m w n) t)
+      ∙ ap (λ (x : List ℕ). pushed_all z (inputs_text m w n ++ x)) (k ∙ ap (λ (x : RawSettings). answer_text (check_of x)) ea)
 
-  pub row-accepted : (k : ℕ) (sig : List ℕ) → Symbols k ≡ countOf (checkOf a) → sig ≡ writtenInto (checkOf a) zeros → r ≡ pushedAll i (acceptedText k sig)
-      → r ≡ pushedAll z (rowFor m w n)
-  row-accepted k sig c s e = behind (acceptedText k sig) e (ap (acceptedText k) s ∙ accepted-answer (checkOf a) k c)
+  pub row_accepted : (k : ℕ) (sig : List ℕ) → Symbols k ≡ count_of (check_of a) → sig ≡ written_into (check_of a) zeros → r ≡ pushed_all i (accepted_text k sig)
+      → r ≡ pushed_all z (row_for m w n)
+  row_accepted k sig c s e = behind (accepted_text k sig) e (ap (accepted_text k) s ∙ accepted_answer (check_of a) k c)
 
-  pub row-refused : (q : Refusal) → CountRefused q ≡ countOf (checkOf a) → r ≡ pushedAll i (refusedText q) → r ≡ pushedAll z (rowFor m w n)
-  row-refused q c e = behind (refusedText q) e (refused-answer (checkOf a) q c)
+  pub row_refused : (q : Refusal) → CountRefused q ≡ count_of (check_of a) → r ≡ pushed_all i (refused_text q) → r ≡ pushed_all z (row_for m w n)
+  row_refused q c e = behind (refused_text q) e (refused_answer (check_of a) q c)
 
 -- ---- a row has at most 40 bytes
 
-inputs-short : (m w n : ℕ) → length (inputsText m w n) ≤ 18
-inputs-short m w n =
-    simp length-append (omega (arith, decimal-short m, decimal-short w, decimal-short n))
+inputs_short : (m w n : ℕ) → length (inputs_text m w n) ≤ 18
+inputs_short m w n =
+    simp length-append (omega (arith, decimal_short m, decimal_short w, decimal_short n))
 
-answer-short : (x : Checked) → length (answerText x) ≤ 19
-answer-short (Accepted s) =
-    simp (length-append, hex-length, six-length) (omega (arith, decimal-short (symbolsOf s)))
-answer-short (Refused r) = simp length-append (omega (arith, decimal-short (numberOf r)))
+answer_short : (x : Checked) → length (answer_text x) ≤ 19
+answer_short (Accepted s) =
+    simp (length-append, hex_length, six_length) (omega (arith, decimal_short (symbols_of s)))
+answer_short (Refused r) = simp length-append (omega (arith, decimal_short (number_of r)))
 
-by-short : (p : Parsed) → length (rowBy p) ≤ 40
-by-short (Numbers m w n) =
-    omega (arith, length-append (inputsText m w n) (answerText (checkOf (rawFor m w n))), inputs-short m w n, answer-short (checkOf (rawFor m w n)))
-by-short Malformed = omega arith
+by_short : (p : Parsed) → length (row_by p) ≤ 40
+by_short (Numbers m w n) =
+    omega (arith, length-append (inputs_text m w n) (answer_text (check_of (raw_for m w n))), inputs_short m w n, answer_short (check_of (raw_for m w n)))
+by_short Malformed = omega arith
 
 -- what is printed for a line fits a row
-pub row-short : (l : List ℕ) → length (rowOf l) ≤ 40
-row-short l = by-short (parsedOf l)
+pub row_short : (l : List ℕ) → length (row_of l) ≤ 40
+row_short l = by_short (parsed_of l)
 
 -- a row that the public call gives is no longer than its bytes
-pub row-fits : (l : List ℕ) (r : Row) → r ≡ rowHolding (rowOf l) → r .len ≤ length (r .bytes)
-row-fits l r e =
-    subst (λ (x : Row). x .len ≤ length (x .bytes)) (sym e)
-    (rw (length-append (rowOf l) (replicate (40 - length (rowOf l)) 0)) (omega arith))
+pub row_fits : (l : List ℕ) (r : Row) → r ≡ row_holding (row_of l) → r.len ≤ length r.bytes
+row_fits l r e =
+    subst (λ (x : Row). x.len ≤ length x.bytes) (sym e)
+    (rw (length-append (row_of l) (replicate (40 - length (row_of l)) 0)) (omega arith))
 
 -- ---- the two ways out of the public row
 
-module _ (l : List ℕ) (p : Parsed) (r : Row) (ep : p ≡ parsedOf l) where
-  pub row-held : r ≡ pushedAll emptyRow (rowBy p) → r ≡ rowHolding (rowOf l)
-  row-held e = e ∙ ap (λ (x : Parsed). pushedAll emptyRow (rowBy x)) ep ∙ pushed-all-holding (rowOf l) (row-short l)
+module _ (l : List ℕ) (p : Parsed) (r : Row) (ep : p ≡ parsed_of l) where
+  pub row_held : r ≡ pushed_all empty_row (row_by p) → r ≡ row_holding (row_of l)
+  row_held e = e ∙ ap (λ (x : Parsed). pushed_all empty_row (row_by x)) ep ∙ pushed_all_holding (row_of l) (row_short l)
 
-  pub row-numbers : (m w n : ℕ) → p ≡ Numbers m w n → r ≡ pushedAll emptyRow (rowFor m w n) → r ≡ rowHolding (rowOf l)
-  row-numbers m w n k e = row-held (e ∙ ap (λ (x : Parsed). pushedAll emptyRow (rowBy x)) (sym k))
+  pub row_numbers : (m w n : ℕ) → p ≡ Numbers m w n → r ≡ pushed_all empty_row (row_for m w n) → r ≡ row_holding (row_of l)
+  row_numbers m w n k e = row_held (e ∙ ap (λ (x : Parsed). pushed_all empty_row (row_by x)) (sym k))
 
-  pub row-malformed : p ≡ Malformed → r ≡ pushedAll emptyRow malformedText → r ≡ rowHolding (rowOf l)
-  row-malformed k e = row-held (e ∙ ap (λ (x : Parsed). pushedAll emptyRow (rowBy x)) (sym k))
+  pub row_malformed : p ≡ Malformed → r ≡ pushed_all empty_row malformed_text → r ≡ row_holding (row_of l)
+  row_malformed k e = row_held (e ∙ ap (λ (x : Parsed). pushed_all empty_row (row_by x)) (sym k))
 
-pub small-numbers : (p : Parsed) (m w n : ℕ) → FiveDigits p → p ≡ Numbers m w n → (m < 100000) × ((w < 100000) × (n < 100000))
-small-numbers p m w n s e = subst FiveDigits e s
+pub small_numbers : (p : Parsed) (m w n : ℕ) → FiveDigits p → p ≡ Numbers m w n → (m < 100000) × ((w < 100000) × (n < 100000))
+small_numbers p m w n s e = subst FiveDigits e s

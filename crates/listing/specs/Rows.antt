@@ -1,65 +1,63 @@
 -- "Fields printed: the three inputs without leading zeros, the symbol count, the six signal bytes in order in capitals;
 -- or the inputs and `refused` with its number" (document 01, 'Checked by hand').
-use mathlib.Core.Bool.{true, false}
-use mathlib.Core.List.{List, [], _∷_, _++_}
-use Prim.Native.Nat.{ℕ}
-use Rattle·settings.specs.declared.settings.RawSettings.{RawSettings}
-use Rattle·settings.specs.declared.settings.Refusal.{Refusal}
-use Rattle·settings.specs.declared.settings.Checked.{Checked}
-use Rattle·settings.specs.declared.settings.Checked.the-variants.{Accepted, Refused}
-use Rattle·settings.specs.Settings.{checkOf, numberOf}
-use Rattle·symbols.specs.Symbols.{symbolsOf}
-use Rattle·signal.specs.HtSig.{fieldsOf, sigBytes}
-use Rattle·parsing.specs.declared.numbers.Parsed.{Parsed}
-use Rattle·parsing.specs.declared.numbers.Parsed.the-variants.{Numbers, Malformed}
-use Rattle·parsing.specs.Parsing.{parsedOf}
-use Rattle·text.specs.Printing.{decimal, hexBytes}
+use Rattle.std.specs.Prelude.{true, false, List, [], ◌∷◌, ◌++◌, ℕ}
+use Rattle.settings.specs.declared.settings.RawSettings.{RawSettings}
+use Rattle.settings.specs.declared.settings.Refusal.{Refusal}
+use Rattle.settings.specs.declared.settings.Checked.{Checked}
+use Rattle.settings.specs.declared.settings.Checked.TheVariants.{Accepted, Refused}
+use Rattle.settings.specs.Settings.{check_of, number_of}
+use Rattle.symbols.specs.Symbols.{symbols_of}
+use Rattle.signal.specs.HtSig.{fields_of, sig_bytes}
+use Rattle.parsing.specs.declared.numbers.Parsed.{Parsed}
+use Rattle.parsing.specs.declared.numbers.Parsed.TheVariants.{Numbers, Malformed}
+use Rattle.parsing.specs.Parsing.{parsed_of}
+use Rattle.text.specs.Printing.{decimal, hex_bytes}
 
 -- "Format is 0, seed 1; smoothing and not sounding are 1, other flags 0"
-abbrev pub rawFor : (mcs width length : ℕ) → RawSettings
-rawFor m w n = record {
+abbrev pub raw_for : (mcs width length : ℕ) → RawSettings
+raw_for m w n = record {
   width = w;
   mcs = m;
   format = 0;
   length = n;
   seed = 1;
   smoothing = true;
-  «not_sounding» = true;
+  not_sounding = true;
   aggregation = false;
-  «short_guard» = false;
+  short_guard = false;
 }
 
-abbrev pub inputsText : (mcs width length : ℕ) → List ℕ
-inputsText m w n = decimal m ++ (32 ∷ (decimal w ++ (32 ∷ (decimal n ++ (32 ∷ [])))))
+abbrev pub inputs_text : (mcs width length : ℕ) → List ℕ
+inputs_text m w n = decimal m ++ (32 ∷ (decimal w ++ (32 ∷ (decimal n ++ (32 ∷ [])))))
 
 -- "refused" and its number
-abbrev pub refusedWord : List ℕ
-refusedWord = 114 ∷ 101 ∷ 102 ∷ 117 ∷ 115 ∷ 101 ∷ 100 ∷ 32 ∷ []
+abbrev pub refused_word : List ℕ
+refused_word = 114 ∷ 101 ∷ 102 ∷ 117 ∷ 115 ∷ 101 ∷ 100 ∷ 32 ∷ []
 
-abbrev pub refusedText : Refusal → List ℕ
-refusedText r = refusedWord ++ (decimal (numberOf r) ++ (10 ∷ []))
+abbrev pub refused_text : Refusal → List ℕ
+refused_text r = refused_word ++ (decimal (number_of r) ++ (10 ∷ []))
 
-abbrev pub acceptedText : ℕ → List ℕ → List ℕ
-acceptedText symbols sig = decimal symbols ++ (32 ∷ (hexBytes sig ++ (10 ∷ [])))
+abbrev pub accepted_text : ℕ → List ℕ → List ℕ
+accepted_text symbols sig = decimal symbols ++ (32 ∷ (hex_bytes sig ++ (10 ∷ [])))
 
-abbrev pub answerText : Checked → List ℕ
-answerText (Accepted s) = acceptedText (symbolsOf s) (sigBytes (fieldsOf s))
-answerText (Refused r) = refusedText r
+abbrev pub answer_text : Checked → List ℕ
+answer_text (Accepted s) = accepted_text (symbols_of s) (sig_bytes (fields_of s))
+answer_text (Refused r) = refused_text r
 
-abbrev pub rowFor : (mcs width length : ℕ) → List ℕ
-rowFor m w n = inputsText m w n ++ answerText (checkOf (rawFor m w n))
+abbrev pub row_for : (mcs width length : ℕ) → List ℕ
+row_for m w n = inputs_text m w n ++ answer_text (check_of (raw_for m w n))
 
 -- "malformed"
-abbrev pub malformedText : List ℕ
-malformedText = 109 ∷ 97 ∷ 108 ∷ 102 ∷ 111 ∷ 114 ∷ 109 ∷ 101 ∷ 100 ∷ 10 ∷ []
+abbrev pub malformed_text : List ℕ
+malformed_text = 109 ∷ 97 ∷ 108 ∷ 102 ∷ 111 ∷ 114 ∷ 109 ∷ 101 ∷ 100 ∷ 10 ∷ []
 
-abbrev pub rowBy : Parsed → List ℕ
-rowBy (Numbers m w n) = rowFor m w n
-rowBy Malformed = malformedText
+abbrev pub row_by : Parsed → List ℕ
+row_by (Numbers m w n) = row_for m w n
+row_by Malformed = malformed_text
 
 -- what is printed for a line
-abbrev pub rowOf : List ℕ → List ℕ
-rowOf line = rowBy (parsedOf line)
+abbrev pub row_of : List ℕ → List ℕ
+row_of line = row_by (parsed_of line)
 
 -- room for six bytes
 abbrev pub zeros : List ℕ

@@ -1,21 +1,18 @@
 // The row of a line.
+ghost use Rattle.std.specs.Prelude.{◌≡◌, ◌<◌, ◌≤◌, length};
+ghost use Rattle.text.specs.Printing.{empty_row, pushed_all, row_holding};
+ghost use Rattle.listing.specs.Rows.{zeros, raw_for, inputs_text, refused_text, accepted_text, row_for, malformed_text, row_of};
+ghost use Rattle.signal.specs.HtSig.{written_into};
+ghost use Rattle.settings.specs.Settings.{check_of};
+
 use parsing::numbers;
 use parsing::numbers::Parsed;
-use settings::settings::RawSettings;
-use settings::settings::Refusal;
-use settings::settings::number;
+use settings::settings::{RawSettings, Refusal, number};
 use signal::ht_sig;
 use symbols::count;
 use symbols::count::Count;
 use text::printing;
 use text::printing::Row;
-ghost use mathlib.Core.Path.{_≡_};
-ghost use Prim.Native.Nat.{_<_, _≤_};
-ghost use Rattle·text.specs.Printing.{emptyRow, pushedAll, rowHolding};
-ghost use Rattle·listing·specs.specs.Rows.{zeros, rawFor, inputsText, refusedText, acceptedText, rowFor, malformedText, rowOf};
-ghost use Rattle·signal.specs.HtSig.{writtenInto};
-ghost use lib.ListN.{length};
-ghost use Rattle·settings.specs.Settings.{checkOf};
 
 const MALFORMED: [u8; 10] = *b"malformed\n";
 
@@ -23,7 +20,7 @@ const REFUSED: [u8; 8] = *b"refused ";
 
 // The settings that a line means: format 0 and seed 1; smoothing and not sounding on, the other flags off.
 fn raw_for(mcs: u64, width: u64, length: u64) -> RawSettings
-    ensures { λ r. ⌜ r ≡ rawFor mcs width length ⌝ }
+    ensures { result ≡ raw_for mcs width length }
 {
     RawSettings {
         width,
@@ -40,8 +37,8 @@ fn raw_for(mcs: u64, width: u64, length: u64) -> RawSettings
 
 // The three inputs without leading zeros, each with a space after it.
 fn inputs_row(mcs: u64, width: u64, length: u64) -> Row
-    requires { ⌜ (mcs < 100000) × ((width < 100000) × (length < 100000)) ⌝ }
-    ensures { λ r. ⌜ (r ≡ pushedAll emptyRow (inputsText mcs width length)) × (r .len ≤ 18) ⌝ }
+    requires { (mcs < 100000) × ((width < 100000) × (length < 100000)) }
+    ensures { (result ≡ pushed_all empty_row (inputs_text mcs width length)) × (result.len ≤ 18) }
 {
     let a = printing::push_decimal(printing::empty_row(), mcs);
     let b = printing::push_decimal(printing::push(a, 32), width);
@@ -50,8 +47,8 @@ fn inputs_row(mcs: u64, width: u64, length: u64) -> Row
 }
 
 fn refused_row(inputs: Row, r: Refusal) -> Row
-    requires { ⌜ inputs .len ≤ 18 ⌝ }
-    ensures { λ n. ⌜ n ≡ pushedAll inputs (refusedText r) ⌝ }
+    requires { inputs.len ≤ 18 }
+    ensures { result ≡ pushed_all inputs (refused_text r) }
 {
     let refused = REFUSED;
     let word = printing::push_text(inputs, &refused);
@@ -59,8 +56,8 @@ fn refused_row(inputs: Row, r: Refusal) -> Row
 }
 
 fn accepted_row(inputs: Row, symbols: u64, sig: &[u8]) -> Row
-    requires { ⌜ (inputs .len ≤ 18) × ((symbols < 100000) × (length (now sig) ≡ 6)) ⌝ }
-    ensures { λ r. ⌜ r ≡ pushedAll inputs (acceptedText symbols (now (sig .entry))) ⌝ }
+    requires { (inputs.len ≤ 18) × ((symbols < 100000) × (length sig.now ≡ 6)) }
+    ensures { result ≡ pushed_all inputs (accepted_text symbols sig.now) }
 {
     let count = printing::push(printing::push_decimal(inputs, symbols), 32);
     printing::push(printing::push_hex(count, sig), 10)
@@ -68,7 +65,7 @@ fn accepted_row(inputs: Row, symbols: u64, sig: &[u8]) -> Row
 
 // The six signal bytes of settings, all 0 where they are refused.
 fn sig_bytes(raw: RawSettings) -> [u8; 6]
-    ensures { λ r. ⌜ r ≡ writtenInto (checkOf raw) zeros ⌝ }
+    ensures { result ≡ written_into (check_of raw) zeros }
 {
     let mut sig = [0u8; 6];
     ht_sig::write(raw, &mut sig);
@@ -76,8 +73,8 @@ fn sig_bytes(raw: RawSettings) -> [u8; 6]
 }
 
 fn answered_row(mcs: u64, width: u64, length: u64) -> Row
-    requires { ⌜ (mcs < 100000) × ((width < 100000) × (length < 100000)) ⌝ }
-    ensures { λ r. ⌜ r ≡ pushedAll emptyRow (rowFor mcs width length) ⌝ }
+    requires { (mcs < 100000) × ((width < 100000) × (length < 100000)) }
+    ensures { result ≡ pushed_all empty_row (row_for mcs width length) }
 {
     let inputs = inputs_row(mcs, width, length);
     let raw = raw_for(mcs, width, length);
@@ -91,7 +88,7 @@ fn answered_row(mcs: u64, width: u64, length: u64) -> Row
 }
 
 fn malformed_row() -> Row
-    ensures { λ r. ⌜ r ≡ pushedAll emptyRow malformedText ⌝ }
+    ensures { result ≡ pushed_all empty_row malformed_text }
 {
     let malformed = MALFORMED;
     printing::push_text(printing::empty_row(), &malformed)
@@ -99,7 +96,7 @@ fn malformed_row() -> Row
 
 // The public row: what is printed for a line, its line feed included.
 pub fn row(line: &[u8]) -> Row
-    ensures { λ r. ⌜ r ≡ rowHolding (rowOf (now (line .entry))) ⌝ }
+    ensures { result ≡ row_holding (row_of line.now) }
 {
     let parsed = numbers::parse(line);
     let Parsed::Numbers(mcs, width, length) = parsed else {

@@ -1,104 +1,104 @@
 -- What the mapper's code does, over plain lists and numbers: its tables of levels, a carrier's point, the turn. Assumes nothing.
-use mathlib.Core.Path.{_≡_, _∙_, refl, sym, ap, subst}
-use mathlib.Core.List.{List, [], _∷_}
-use Prim.Native.Nat.{ℕ, zero, suc, _+_, _*_, _^_, _<_}
-use native.Mathlib.Nat.{le-of-suc-le-suc, not-suc-le-zero}
+use mathlib.Core.Path.{◌≡◌, ◌∙◌, refl, sym, ap, subst}
+use mathlib.Core.List.{List, [], ◌∷◌}
+use Prim.Native.Nat.{ℕ, zero, suc, ◌+◌, ◌*◌, ◌^◌, ◌<◌}
+use native.Mathlib.Nat.{le_of_suc-le-suc, not-suc-le-zero}
 use native.Mathlib.Omega.{arith}
-use borrow.Author.Tests.{eq-eqb, ne-eqb}
+use borrow.Author.Tests.{eq-eqb, ne_eqb}
 use lib.Dec.{T}
 use lib.IntN.{pos}
-use lib.ListN.{length, getD}
+use lib.ListN.{length, get_or}
 use lib.Ieee.{Float, nan}
-use Rattle·laws.specs.Test.{among}
-use Rattle·laws.specs.Claim.{Claim, _is_, _under_, _and_, each, given, unless, Holds, sound}
-use Rattle·chain.specs.Plan.{bitCounts, axisCounts}
-use Rattle·chain.specs.Parser.{axisBits}
-use Rattle·mapper·specs.specs.Levels.{whole, levelOf, Levels, carrierLevels, turned, pointOf}
-use Rattle·mapper·specs.specs.Mapped.{LevelTable, carrierHalves, PointAsked, Small, turnedPoint}
-use Rattle·mapper·proofs.proofs.LevelLaws.{negated-whole}
+use Rattle.laws.specs.Test.{among}
+use Rattle.laws.specs.Claim.{Claim, ◌is◌, ◌under◌, ◌and◌, each, given, unless, Holds, sound}
+use Rattle.chain.specs.Plan.{bit_counts, axis_counts}
+use Rattle.chain.specs.Parser.{axis_bits}
+use Rattle.mapper.specs.Levels.{whole, level_of, Levels, carrier_levels, turned, point_of}
+use Rattle.mapper.specs.Mapped.{LevelTable, carrier_halves, PointAsked, Small, turned_point}
+use Rattle.mapper.proofs.LevelLaws.{negated_whole}
 
 -- f 0, .., f (n - 1)
 abbrev pub listed : (ℕ → Float) → ℕ → List Float
 listed f zero = []
 listed f (suc n) = f 0 ∷ listed (λ k. f (suc k)) n
 
-listed-at : (f : ℕ → Float) (n k : ℕ) → k < n → getD (listed f n) k nan ≡ f k
-listed-at f zero k h = absurd (not-suc-le-zero h)
-listed-at f (suc n) zero h = refl
-listed-at f (suc n) (suc k) h = listed-at (λ j. f (suc j)) n k (le-of-suc-le-suc h)
+listed_at : (f : ℕ → Float) (n k : ℕ) → k < n → get_or (listed f n) k nan ≡ f k
+listed_at f zero k h = absurd (not-suc-le-zero h)
+listed_at f (suc n) zero h = refl
+listed_at f (suc n) (suc k) h = listed_at (λ j. f (suc j)) n k (le_of_suc-le-suc h)
 
-abbrev axisClaim : Claim
-axisClaim = each axisCounts λ s. 2 ^ s under 9 and unless s 1 (unless s 2 (s is 3))
+abbrev axis_claim : Claim
+axis_claim = each axis_counts λ s. 2 ^ s under 9 and unless s 1 (unless s 2 (s is 3))
 
 -- an axis has at most eight levels; where it has neither one bit nor two, it has three
-pub axes : Holds axisClaim
-axes = sound axisClaim tt
+pub axes : Holds axis_claim
+axes = sound axis_claim tt
 
 -- the eight floats of the labels 0 to 7 are a table of the levels
-pub tabled : (s t : ℕ) (table : List Float) → s ≡ t → T (among axisCounts t)
-    → table ≡ listed (λ k. whole (levelOf t k)) 8 → LevelTable s table
+pub tabled : (s t : ℕ) (table : List Float) → s ≡ t → T (among axis_counts t)
+    → table ≡ listed (λ k. whole (level_of t k)) 8 → LevelTable s table
 tabled s t table e h f = subst (λ (n : ℕ). LevelTable n table) (sym e) (record {
   sized = ap length f;
   level = λ label l.
-      ap (λ (x : List Float). getD x label nan) f ∙ listed-at (λ k. whole (levelOf t k)) 8 label (omega (arith, l, axes t h .0));
+      ap (λ (x : List Float). get_or x label nan) f ∙ listed_at (λ k. whole (level_of t k)) 8 label (omega (arith, l, (axes t h).0));
 })
 
-abbrev halvesClaim : Claim
-halvesClaim = each bitCounts λ b.
-    2 ^ axisBits b under 9 and given b 1 (carrierHalves b is 1) and given b 1 (axisBits b is 1) and unless b 1 (carrierHalves b is 2)
+abbrev halves_claim : Claim
+halves_claim = each bit_counts λ b.
+    2 ^ axis_bits b under 9 and given b 1 (carrier_halves b is 1) and given b 1 (axis_bits b is 1) and unless b 1 (carrier_halves b is 2)
 
 -- a carrier has one half label where its label is one bit, and else two
-halves-are : Holds halvesClaim
-unfolding axisBits
-halves-are = sound halvesClaim tt
+halves_are : Holds halves_claim
+unfolding axis_bits
+halves_are = sound halves_claim tt
 
 module _ {halves : List ℕ} {table : List Float} {bits from c : ℕ} (a : PointAsked halves table bits from c) where
   -- a half label of the carriers up to c stands in the slice
-  pub half-in : (m : ℕ) → m < carrierHalves bits * (c + 1) → from + m < length halves
-  half-in m l = omega (arith, a .stands .inside)
+  pub half_in_lem : (m : ℕ) → m < carrier_halves bits * (c + 1) → from + m < length halves
+  half_in_lem m l = omega (arith, a.stands.inside)
 
   -- it is a place of the table
-  pub half-known : (m : ℕ) → m < carrierHalves bits * (c + 1) → getD halves (from + m) 0 < length table
-  half-known m l = omega (arith, a .stands .label m l, a .tabled .sized, halves-are bits (a .known) .0)
+  pub half_known : (m : ℕ) → m < carrier_halves bits * (c + 1) → get_or halves (from + m) 0 < length table
+  half_known m l = omega (arith, a.stands.label m l, a.tabled.sized, (halves_are bits a.known).0)
 
   -- where its level stands
-  pub half-level : (m : ℕ) → m < carrierHalves bits * (c + 1)
-      → getD table (getD halves (from + m) 0) nan ≡ whole (levelOf (axisBits bits) (getD halves (from + m) 0))
-  half-level m l = a .tabled .level (getD halves (from + m) 0) (a .stands .label m l)
+  pub half_level : (m : ℕ) → m < carrier_halves bits * (c + 1)
+      → get_or table (get_or halves (from + m) 0) nan ≡ whole (level_of (axis_bits bits) (get_or halves (from + m) 0))
+  half_level m l = a.tabled.level (get_or halves (from + m) 0) (a.stands.label m l)
 
   -- carrier c's only half label
-  pub only : bits ≡ 1 → c < carrierHalves bits * (c + 1)
-  only e = rw (halves-are bits (a .known) .1 .0 e) (omega arith)
+  pub only : bits ≡ 1 → c < carrier_halves bits * (c + 1)
+  only e = rw ((halves_are bits a.known).1.0 e) (omega arith)
 
   -- carrier c's first half label
-  pub first-half : (bits ≡ 1 → ⊥) → 2 * c < carrierHalves bits * (c + 1)
-  first-half n = rw (halves-are bits (a .known) .1 .1 .1 n) (omega arith)
+  pub first_half_lem : (bits ≡ 1 → ⊥) → 2 * c < carrier_halves bits * (c + 1)
+  first_half_lem n = rw ((halves_are bits a.known).1.1.1 n) (omega arith)
 
   -- and its second
-  pub second-half : (bits ≡ 1 → ⊥) → 2 * c + 1 < carrierHalves bits * (c + 1)
-  second-half n = rw (halves-are bits (a .known) .1 .1 .1 n) (omega arith)
+  pub second_half_lem : (bits ≡ 1 → ⊥) → 2 * c + 1 < carrier_halves bits * (c + 1)
+  second_half_lem n = rw ((halves_are bits a.known).1.1.1 n) (omega arith)
 
   -- the point of a carrier whose label is one bit
-  pub one-level : (x : Float) → bits ≡ 1 → x ≡ getD table (getD halves (from + c) 0) nan
-      → record { first = x; second = whole (pos 0) } ≡ pointOf (carrierLevels bits (λ m. getD halves (from + m) 0) c)
-  unfolding carrierLevels
-  one-level x e g =
-      let f : x ≡ whole (levelOf (axisBits bits) (getD halves (from + c) 0)) = g ∙ half-level c (only e) in
-      let s : axisBits bits ≡ 1 = halves-are bits (a .known) .1 .1 .0 e in
+  pub one_level : (x : Float) → bits ≡ 1 → x ≡ get_or table (get_or halves (from + c) 0) nan
+      → record { first = x; second = whole (pos 0) } ≡ point_of (carrier_levels bits (λ m. get_or halves (from + m) 0) c)
+  unfolding carrier_levels
+  one_level x e g =
+      let f : x ≡ whole (level_of (axis_bits bits) (get_or halves (from + c) 0)) = g ∙ half_level c (only e) in
+      let s : axis_bits bits ≡ 1 = (halves_are bits a.known).1.1.0 e in
       simp (eq-eqb bits 1 e, f, s)
 
   -- and of a carrier with two half labels
-  pub two-levels : (x y : Float) → (bits ≡ 1 → ⊥)
-      → x ≡ getD table (getD halves (from + 2 * c) 0) nan → y ≡ getD table (getD halves (from + 2 * c + 1) 0) nan
-      → record { first = x; second = y } ≡ pointOf (carrierLevels bits (λ m. getD halves (from + m) 0) c)
-  unfolding carrierLevels
-  two-levels x y n g g′ =
+  pub two_levels : (x y : Float) → (bits ≡ 1 → ⊥)
+      → x ≡ get_or table (get_or halves (from + 2 * c) 0) nan → y ≡ get_or table (get_or halves (from + 2 * c + 1) 0) nan
+      → record { first = x; second = y } ≡ point_of (carrier_levels bits (λ m. get_or halves (from + m) 0) c)
+  unfolding carrier_levels
+  two_levels x y n g g' =
       let next : from + 2 * c + 1 ≡ from + (2 * c + 1) = omega arith in
-      let f : x ≡ whole (levelOf (axisBits bits) (getD halves (from + 2 * c) 0)) = g ∙ half-level (2 * c) (first-half n) in
-      let f′ : y ≡ whole (levelOf (axisBits bits) (getD halves (from + (2 * c + 1)) 0)) =
-      g′ ∙ ap (λ (k : ℕ). getD table (getD halves k 0) nan) next ∙ half-level (2 * c + 1) (second-half n) in
-      simp (ne-eqb bits 1 n, f, f′)
+      let f : x ≡ whole (level_of (axis_bits bits) (get_or halves (from + 2 * c) 0)) = g ∙ half_level (2 * c) (first_half_lem n) in
+      let f' : y ≡ whole (level_of (axis_bits bits) (get_or halves (from + (2 * c + 1)) 0)) =
+      g' ∙ ap (λ (k : ℕ). get_or table (get_or halves k 0) nan) next ∙ half_level (2 * c + 1) (second_half_lem n) in
+      simp (ne_eqb bits 1 n, f, f')
 
 -- the turned point of small whole numbers is the point of the turned whole numbers
-pub turned-whole : (l : Levels) → Small l → turnedPoint (pointOf l) ≡ pointOf (turned l)
-turned-whole l h = ap (λ (x : Float). record { first = x; second = whole (l .first) }) (negated-whole (l .second) (h .second))
+pub turned_whole : (l : Levels) → Small l → turned_point (point_of l) ≡ point_of (turned l)
+turned_whole l h = ap (λ (x : Float). record { first = x; second = whole l.first }) (negated_whole l.second h.second)

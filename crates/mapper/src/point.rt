@@ -1,16 +1,14 @@
 // Points from half labels (document 01 step 6), and the quarter turn of step 8.
-ghost use mathlib.Core.Path.{_≡_};
-ghost use Prim.Native.Nat.{_+_, _<_, _≤_};
-ghost use lib.Dec.{T};
-ghost use lib.ListN.{length, getD};
-ghost use lib.Ieee.{nan};
-ghost use Rattle·laws.specs.Test.{among};
-ghost use Rattle·laws.specs.Filled.{Filled};
-ghost use Rattle·chain.specs.Plan.{axisCounts};
-ghost use Rattle·mapper·specs.specs.Levels.{carrierLevels, pointOf};
-ghost use Rattle·mapper·specs.specs.Mapped.{LevelTable, PointAsked, negatedLevel, turnedPoint, axisOf};
+ghost use Rattle.std.specs.Prelude.{◌≡◌, ◌+◌, ◌<◌, ◌≤◌, T, length, get_or};
+ghost use Rattle.std.specs.Float.{nan};
+ghost use Rattle.laws.specs.Test.{among};
+ghost use Rattle.laws.specs.Filled.{Filled};
+ghost use Rattle.chain.specs.Plan.{axis_counts};
+ghost use Rattle.mapper.specs.Levels.{carrier_levels, point_of};
+ghost use Rattle.mapper.specs.Mapped.{LevelTable, PointAsked, negated_level, turned_point, axis_of};
 
 // Two levels: exact whole numbers, zero with a clear sign bit.
+#[derive(Drop)]
 pub struct Point {
     pub first: f32,
     pub second: f32,
@@ -18,8 +16,8 @@ pub struct Point {
 
 // The levels of s bits of one axis, by their label with the first bit highest: one table for a symbol, so that no branch goes by its data.
 pub fn level_table(s: usize) -> [f32; 8]
-    requires { ⌜ T (among axisCounts s) ⌝ }
-    ensures { λ r. ⌜ LevelTable s r ⌝ }
+    requires { T (among axis_counts s) }
+    ensures { LevelTable s result }
 {
     if s == 1 {
         return [-1.0, 1.0, 0.0, 0.0, 0.0, 0.0, 0.0, 0.0];
@@ -31,16 +29,16 @@ pub fn level_table(s: usize) -> [f32; 8]
 }
 
 fn level(table: &[f32], half: u8) -> f32
-    requires { ⌜ half < length (now table) ⌝ }
-    ensures { λ r. ⌜ r ≡ getD (now (table .entry)) half nan ⌝ }
+    requires { half < length table.now }
+    ensures { result ≡ get_or table.now half nan }
 {
     table[half as usize]
 }
 
 // The point of data carrier c of the stream whose half labels stand from `from` on.
 pub fn data_point(halves: &[u8], table: &[f32], bits: usize, from: usize, c: usize) -> Point
-    requires { ⌜ PointAsked (now halves) (now table) bits from c ⌝ }
-    ensures { λ r. ⌜ r ≡ pointOf (carrierLevels bits (λ m. getD (now (halves .entry)) (from + m) 0) c) ⌝ }
+    requires { PointAsked halves.now table.now bits from c }
+    ensures { result ≡ point_of (carrier_levels bits (λ m. get_or halves.now (from + m) 0) c) }
 {
     if bits == 1 {
         return Point {
@@ -57,14 +55,14 @@ pub fn data_point(halves: &[u8], table: &[f32], bits: usize, from: usize, c: usi
 
 // The negative of a level. Zero keeps its clear sign bit; any other float has its sign bit flipped, which rounds nothing.
 fn negated(x: f32) -> f32
-    ensures { λ r. ⌜ r ≡ negatedLevel x ⌝ }
+    ensures { result ≡ negated_level x }
 {
     if x == 0.0 { 0.0 } else { -x }
 }
 
 // (a, b) becomes (-b, a).
 pub fn turn(p: Point) -> Point
-    ensures { λ r. ⌜ r ≡ turnedPoint p ⌝ }
+    ensures { result ≡ turned_point p }
 {
     Point {
         first: negated(p.second),
@@ -74,8 +72,8 @@ pub fn turn(p: Point) -> Point
 
 // Puts a point's two floats into a slice.
 pub fn put_point(out: &mut [f32], at: usize, p: Point)
-    requires { ⌜ at + 2 ≤ length (now out) ⌝ }
-    ensures { λ _. ⌜ Filled nan at (axisOf p) 2 (now (out .entry)) (now (out .exit)) ⌝ }
+    requires { at + 2 ≤ length out.old }
+    ensures { Filled nan at (axis_of p) 2 out.old out.new }
 {
     out[at] = p.first;
     out[at + 1] = p.second;

@@ -1,26 +1,18 @@
 // The points of one symbol, written in runs between the pilots.
-use chain::plan::Plan;
-use chain::plan::axis_bits;
-use mapper::point::Point;
-use mapper::point::data_point;
-use mapper::point::level_table;
-use mapper::point::put_point;
-use mapper::point::turn;
-use pilots::pilot::pilot_sign;
-use pilots::pilot::polarity_bit;
-use subcarriers::layout::places_of;
-use subcarriers::layout::run_of;
-use subcarriers::layout::runs_of;
-ghost use mathlib.Core.Path.{_≡_};
-ghost use Prim.Native.Nat.{_*_, _<_};
-ghost use lib.Ieee.{nan};
-ghost use Rattle·laws.specs.Filled.{Filled};
-ghost use Rattle·chain.specs.Labels.{halvesOf};
-ghost use Rattle·mapper.specs.Levels.{whole, carrierLevels, pointOf};
-ghost use Rattle·mapper.specs.Mapped.{PointAsked};
-ghost use Rattle·subcarriers.specs.Runs.{halfRuns};
-ghost use Rattle·modulator·specs.specs.Symbol.{turnedIf, streamFloats, symbolFloat};
-ghost use Rattle·modulator·specs.specs.Asked.{halvesFrom, halvesIn, runLevel, RunAsked, pilotPoint, StreamAsked, SegmentFilled, StreamFilled, SymbolAsked};
+ghost use Rattle.std.specs.Prelude.{◌≡◌, ◌*◌, ◌<◌};
+ghost use Rattle.std.specs.Float.{nan};
+ghost use Rattle.laws.specs.Filled.{Filled};
+ghost use Rattle.chain.specs.Labels.{halves_of};
+ghost use Rattle.mapper.specs.Levels.{whole, carrier_levels, point_of};
+ghost use Rattle.mapper.specs.Mapped.{PointAsked};
+ghost use Rattle.subcarriers.specs.Runs.{half_runs};
+ghost use Rattle.modulator.specs.Symbol.{turned_if, stream_floats, symbol_float};
+ghost use Rattle.modulator.specs.Asked.{halves_from, halves_in, run_level, RunAsked, pilot_point, StreamAsked, SegmentFilled, StreamFilled, SymbolAsked};
+
+use chain::plan::{Plan, axis_bits};
+use mapper::point::{Point, data_point, level_table, put_point, turn};
+use pilots::pilot::{pilot_sign, polarity_bit};
+use subcarriers::layout::{places_of, run_of, runs_of};
 
 // A data carrier's point as it is sent.
 fn sent_point(
@@ -31,8 +23,8 @@ fn sent_point(
     c: usize,
     turned: bool,
 ) -> Point
-    requires { ⌜ PointAsked (now halves) (now table) bits from c ⌝ }
-    ensures { λ r. ⌜ r ≡ pointOf (turnedIf turned (carrierLevels bits (halvesFrom (now (halves .entry)) from) c)) ⌝ }
+    requires { PointAsked halves.now table.now bits from c }
+    ensures { result ≡ point_of (turned_if turned (carrier_levels bits (halves_from halves.now from) c)) }
 {
     let p = data_point(halves, table, bits, from, c);
     if turned { turn(p) } else { p }
@@ -50,8 +42,8 @@ fn run_points(
     count: usize,
     turned: bool,
 )
-    requires { ⌜ RunAsked (now out) (now halves) (now table) bits from to carrier count ⌝ }
-    ensures { λ _. ⌜ Filled nan to (λ g. whole (runLevel (now (halves .entry)) bits from carrier turned g)) (2 * count) (now (out .entry)) (now (out .exit)) ⌝ }
+    requires { RunAsked out.old halves.now table.now bits from to carrier count }
+    ensures { Filled nan to (λ g. whole (run_level halves.now bits from carrier turned g)) (2 * count) out.old out.new }
 {
     let mut k: usize = 0;
     while k < count {
@@ -66,7 +58,7 @@ fn run_points(
 
 // A pilot's point as it is sent: its sign on the first level before the turn.
 pub fn pilot_point(sign: f32, turned: bool) -> Point
-    ensures { λ r. ⌜ r ≡ pilotPoint sign turned ⌝ }
+    ensures { result ≡ pilot_point sign turned }
 {
     let p = Point {
         first: sign,
@@ -88,8 +80,8 @@ fn segment_points(
     from: usize,
     r: usize,
 )
-    requires { ⌜ StreamAsked (now out) (now halves) (now table) plan n i base from × ((polarity < 2) × (r < 2 * halfRuns (plan .width))) ⌝ }
-    ensures { λ _. ⌜ SegmentFilled plan (now (halves .entry)) polarity n i base from r (now (out .entry)) (now (out .exit)) ⌝ }
+    requires { StreamAsked out.old halves.now table.now plan n i base from × ((polarity < 2) × (r < 2 * half_runs plan.width)) }
+    ensures { SegmentFilled plan halves.now polarity n i base from r out.old out.new }
 {
     let run = run_of(plan.width, r);
     let to = base + 2 * run.place;
@@ -122,8 +114,8 @@ fn stream_points(
     base: usize,
     from: usize,
 )
-    requires { ⌜ StreamAsked (now out) (now halves) (now table) plan n i base from × (polarity < 2) ⌝ }
-    ensures { λ _. ⌜ StreamFilled plan (now (halves .entry)) polarity n i base from (now (out .entry)) (now (out .exit)) ⌝ }
+    requires { StreamAsked out.old halves.now table.now plan n i base from × (polarity < 2) }
+    ensures { StreamFilled plan halves.now polarity n i base from out.old out.new }
 {
     let runs = runs_of(plan.width);
     let mut r: usize = 0;
@@ -135,8 +127,8 @@ fn stream_points(
 
 // The points of symbol n of a frame from its half labels, stream by stream.
 pub fn symbol_points(out: &mut [f32], halves: &[u8], plan: Plan, format: usize, n: usize)
-    requires { ⌜ SymbolAsked (now out) (now halves) plan n ⌝ }
-    ensures { λ _. ⌜ Filled nan 0 (symbolFloat plan (halvesIn (now (halves .entry)) (halvesOf plan)) format n) (plan .streams * streamFloats (plan .width)) (now (out .entry)) (now (out .exit)) ⌝ }
+    requires { SymbolAsked out.old halves.now plan n }
+    ensures { Filled nan 0 (symbol_float plan (halves_in halves.now (halves_of plan)) format n) (plan.streams * stream_floats plan.width) out.old out.new }
 {
     let s = axis_bits(plan.bits);
     let table = level_table(s);

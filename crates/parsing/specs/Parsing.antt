@@ -1,54 +1,49 @@
 -- "MCS, width, length: three numbers of one to five digits, one space between; else it prints `malformed`" (document 01, 'Checked by hand').
-use mathlib.Core.Path.{_≡_}
-use mathlib.Core.Bool.{Bool, cond, _&&_}
-use mathlib.Core.List.{List, [], _∷_, _++_}
-use Prim.Native.Nat.{ℕ, _+_, _-_, _*_, _<_, _≤_}
-use lib.Dec.{eqb, ltb, leb}
-use lib.ListN.{length, getD, take, drop}
-use Rattle·laws.specs.Stretch.{stretch}
-use Rattle·parsing·specs.specs.declared.numbers.Parsed.{Parsed}
-use Rattle·parsing·specs.specs.declared.numbers.Parsed.the-variants.{Numbers, Malformed}
+use Rattle.std.specs.Prelude.{◌≡◌, Bool, cond, ◌&&◌, List, [], ◌∷◌, ◌++◌, ℕ, ◌+◌, ◌-◌, ◌*◌, ◌<◌, ◌≤◌, eqb, ltb, leb, length, get_or, take, drop}
+use Rattle.laws.specs.Stretch.{stretch}
+use Rattle.parsing.specs.declared.numbers.Parsed.{Parsed}
+use Rattle.parsing.specs.declared.numbers.Parsed.TheVariants.{Numbers, Malformed}
 
 -- 0 to 9 in ASCII
-abbrev pub isDigit : ℕ → Bool
-isDigit b = leb 48 b && leb b 57
+abbrev pub is_digit : ℕ → Bool
+is_digit b = leb 48 b && leb b 57
 
-abbrev pub oneToFive : ℕ → Bool
-oneToFive n = leb 1 n && leb n 5
+abbrev pub one_to_five : ℕ → Bool
+one_to_five n = leb 1 n && leb n 5
 
 -- the number that digits are in decimal, behind digits that were `n`
-abbrev pub decimalFrom : ℕ → List ℕ → ℕ
-decimalFrom n [] = n
-decimalFrom n (d ∷ ds) = decimalFrom (10 * n + (d - 48)) ds
+abbrev pub decimal_from : ℕ → List ℕ → ℕ
+decimal_from n [] = n
+decimal_from n (d ∷ ds) = decimal_from (10 * n + (d - 48)) ds
 
-abbrev pub decimalValue : List ℕ → ℕ
-decimalValue ds = decimalFrom 0 ds
+abbrev pub decimal_value : List ℕ → ℕ
+decimal_value ds = decimal_from 0 ds
 
 -- one to five digits from `from` up to `to`, and a space there
-abbrev pub separatedAt : List ℕ → ℕ → ℕ → Bool
-separatedAt l from to = oneToFive (to - from) && (ltb to (length l) && eqb (getD l to 0) 32)
+abbrev pub separated_at : List ℕ → ℕ → ℕ → Bool
+separated_at l from to = one_to_five (to - from) && (ltb to (length l) && eqb (get_or l to 0) 32)
 
 -- where the digits from a place on end
-abbrev pub digitsEnd : List ℕ → ℕ → ℕ
-digitsEnd l from = from + stretch isDigit (drop from l)
+abbrev pub digits_end : List ℕ → ℕ → ℕ
+digits_end l from = from + stretch is_digit (drop from l)
 
-abbrev pub valueIn : List ℕ → ℕ → ℕ → ℕ
-valueIn l from to = decimalValue (take (to - from) (drop from l))
+abbrev pub value_in : List ℕ → ℕ → ℕ → ℕ
+value_in l from to = decimal_value (take (to - from) (drop from l))
 
 -- a line whose digits end at a, at b behind a space, and at c behind another
-abbrev pub parsedAt : List ℕ → (a b c : ℕ) → Parsed
-parsedAt l a b c =
-    cond (separatedAt l 0 a && (separatedAt l (a + 1) b && (oneToFive (c - (b + 1)) && eqb c (length l))))
-    (Numbers (valueIn l 0 a) (valueIn l (a + 1) b) (valueIn l (b + 1) c))
+abbrev pub parsed_at : List ℕ → (a b c : ℕ) → Parsed
+parsed_at l a b c =
+    cond (separated_at l 0 a && (separated_at l (a + 1) b && (one_to_five (c - (b + 1)) && eqb c (length l))))
+    (Numbers (value_in l 0 a) (value_in l (a + 1) b) (value_in l (b + 1) c))
     Malformed
 
 -- the digits at the front, a space, the digits behind it, a space, and digits to the end
-unfoldable pub parsedOf : List ℕ → Parsed
-parsedOf l =
-    let a = digitsEnd l 0 in
-    let b = digitsEnd l (a + 1) in
-    let c = digitsEnd l (b + 1) in
-    parsedAt l a b c
+unfoldable pub parsed_of : List ℕ → Parsed
+parsed_of l =
+    let a = digits_end l 0 in
+    let b = digits_end l (a + 1) in
+    let c = digits_end l (b + 1) in
+    parsed_at l a b c
 
 -- the numbers of a parse have at most five digits
 abbrev pub FiveDigits : Parsed → Type 0
@@ -66,7 +61,7 @@ pub record Number (digits : List ℕ) (n : ℕ) : Type 0 where
   pub digit : AllDigits digits
   pub some : 1 ≤ length digits
   pub most : length digits ≤ 5
-  pub value : decimalValue digits ≡ n
+  pub value : decimal_value digits ≡ n
 
 -- three numbers, one space between
 pub record ThreeNumbers (line : List ℕ) (m w n : ℕ) : Type 0 where
@@ -76,4 +71,4 @@ pub record ThreeNumbers (line : List ℕ) (m w n : ℕ) : Type 0 where
   pub mcs : Number first m
   pub width : Number second w
   pub length : Number third n
-  pub line-is : line ≡ first ++ (32 ∷ (second ++ (32 ∷ third)))
+  pub line_is : line ≡ first ++ (32 ∷ (second ++ (32 ∷ third)))

@@ -1,32 +1,31 @@
 // A line as three numbers: MCS, width, length.
-ghost use mathlib.Core.Path.{_≡_};
-ghost use Prim.Native.Nat.{_+_, _-_, _≤_};
-ghost use lib.ListN.{length, take, drop};
-ghost use Rattle·laws.specs.Stretch.{stretch};
-ghost use Rattle·parsing·specs.specs.Parsing.{isDigit, oneToFive, separatedAt, decimalValue, parsedOf, FiveDigits};
+ghost use Rattle.std.specs.Prelude.{◌≡◌, ◌+◌, ◌-◌, ◌≤◌, length, take, drop};
+ghost use Rattle.laws.specs.Stretch.{stretch};
+ghost use Rattle.parsing.specs.Parsing.{is_digit, one_to_five, separated_at, decimal_value, parsed_of, FiveDigits};
 
+#[derive(Drop)]
 pub enum Parsed {
     Numbers(u64, u64, u64),
     Malformed,
 }
 
 fn is_digit(b: u8) -> bool
-    ensures { λ r. ⌜ r ≡ isDigit b ⌝ }
+    ensures { result ≡ is_digit b }
 {
     (48 <= b) & (b <= 57)
 }
 
 // What a byte counts for as a digit.
 fn digit_value(b: u8) -> u64
-    ensures { λ r. ⌜ (r ≡ b - 48) × (r ≤ 207) ⌝ }
+    ensures { (result ≡ b - 48) × (result ≤ 207) }
 {
     if b < 48 { 0 } else { (b - 48) as u64 }
 }
 
 // The first byte at `at` or later that is no digit, or the end of the line.
 fn digits_end(line: &[u8], at: usize) -> usize
-    requires { ⌜ at ≤ length (now line) ⌝ }
-    ensures { λ r. ⌜ (r ≡ at + stretch isDigit (drop at (now (line .entry)))) × (r ≤ length (now (line .entry))) ⌝ }
+    requires { at ≤ length line.now }
+    ensures { (result ≡ at + stretch is_digit (drop at line.now)) × (result ≤ length line.now) }
 {
     let mut i = at;
     while i < line.len() {
@@ -41,8 +40,8 @@ fn digits_end(line: &[u8], at: usize) -> usize
 
 // The number that the bytes from `from` up to `to` are in decimal.
 fn value_in(line: &[u8], from: usize, to: usize) -> u64
-    requires { ⌜ (from ≤ to) × ((to ≤ from + 5) × (to ≤ length (now line))) ⌝ }
-    ensures { λ r. ⌜ r ≡ decimalValue (take (to - from) (drop from (now (line .entry)))) ⌝ }
+    requires { (from ≤ to) × ((to ≤ from + 5) × (to ≤ length line.now)) }
+    ensures { result ≡ decimal_value (take (to - from) (drop from line.now)) }
 {
     let mut value: u64 = 0;
     let mut i = from;
@@ -54,15 +53,15 @@ fn value_in(line: &[u8], from: usize, to: usize) -> u64
 }
 
 fn one_to_five(n: usize) -> bool
-    ensures { λ r. ⌜ r ≡ oneToFive n ⌝ }
+    ensures { result ≡ one_to_five n }
 {
     (1 <= n) & (n <= 5)
 }
 
 // Whether one to five digits from `from` up to `to` have a space after them.
 fn separated(line: &[u8], from: usize, to: usize) -> bool
-    requires { ⌜ (from ≤ to) × (to ≤ length (now line)) ⌝ }
-    ensures { λ r. ⌜ r ≡ separatedAt (now (line .entry)) from to ⌝ }
+    requires { (from ≤ to) × (to ≤ length line.now) }
+    ensures { result ≡ separated_at line.now from to }
 {
     let some = one_to_five(to - from);
     if !some {
@@ -77,7 +76,7 @@ fn separated(line: &[u8], from: usize, to: usize) -> bool
 
 // The public parse: three numbers of one to five digits with one space between, or malformed.
 pub fn parse(line: &[u8]) -> Parsed
-    ensures { λ r. ⌜ (r ≡ parsedOf (now (line .entry))) × FiveDigits r ⌝ }
+    ensures { (result ≡ parsed_of line.now) × FiveDigits result }
 {
     let a = digits_end(line, 0);
     let first = separated(line, 0, a);

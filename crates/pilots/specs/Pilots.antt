@@ -1,19 +1,14 @@
 -- The pilots' signs (document 01 step 7; EWC 4.6, tables 11 and 12; z by clause 20).
-use mathlib.Core.Bool.{cond}
-use mathlib.Core.List.{List, [], _∷_}
-use Prim.Native.Nat.{ℕ, _+_, _-_, _%_, _<_}
-use lib.Dec.{T, eqb}
-use lib.ListN.{getD}
-use lib.IntN.{ℤ, pos, _*ℤ_}
-use Rattle·laws.specs.Integers.{minus}
-use Rattle·laws.specs.Test.{among}
-use Rattle·chain.specs.Plan.{widths, streamCounts}
-use Rattle·chain.specs.Scrambler.{scramblerBit}
-use Rattle·subcarriers.specs.Subcarriers.{pilotsOf}
+use Rattle.std.specs.Prelude.{cond, List, [], ◌∷◌, ℕ, ◌+◌, ◌-◌, ◌%◌, ◌<◌, T, eqb, get_or, ℤ, pos, ◌*ℤ◌}
+use Rattle.laws.specs.Integers.{minus}
+use Rattle.laws.specs.Test.{among}
+use Rattle.chain.specs.Plan.{widths, stream_counts}
+use Rattle.chain.specs.Scrambler.{scrambler_bit}
+use Rattle.subcarriers.specs.Subcarriers.{pilots_of}
 
 -- a bit as a sign: "0 as 1, 1 as -1"
-abbrev pub signOf : ℕ → ℤ
-signOf b = cond (eqb b 0) (pos 1) (minus 1)
+abbrev pub sign_of : ℕ → ℤ
+sign_of b = cond (eqb b 0) (pos 1) (minus 1)
 
 -- the tables' signs
 abbrev o : ℤ
@@ -41,25 +36,25 @@ table12 =
     ∷ []
 
 -- value k of the row of stream i of so many streams
-unfoldable pub patternOf : (width streams i k : ℕ) → ℤ
-patternOf width streams i k = getD (getD (getD (cond (eqb width 40) table12 table11) (streams - 1) []) i []) k (pos 0)
+unfoldable pub pattern_of : (width streams i k : ℕ) → ℤ
+pattern_of width streams i k = get_or (get_or (get_or (cond (eqb width 40) table12 table11) (streams - 1) []) i []) k (pos 0)
 
 -- "z = 3 mixed, 2 green field"
-abbrev pub polarityStart : (format : ℕ) → ℕ
-polarityStart format = cond (eqb format 1) 2 3
+abbrev pub polarity_start : (format : ℕ) → ℕ
+polarity_start format = cond (eqb format 1) 2 3
 
 -- "polarity n+z mod 127"; "Polarity is the scrambler sequence of seed 127, 0 as 1, 1 as -1": here its bit
-unfoldable pub polarityBit : (format n : ℕ) → ℕ
-polarityBit format n = scramblerBit 127 ((n + polarityStart format) % 127)
+unfoldable pub polarity_bit : (format n : ℕ) → ℕ
+polarity_bit format n = scrambler_bit 127 ((n + polarity_start format) % 127)
 
 -- "The pilot at place q (from 0) in symbol n is pattern((n+q) mod pilots) from tables 11 and 12, times polarity n+z mod 127"
-unfoldable pub pilotSign : (width streams format n i q : ℕ) → ℤ
-unfolding patternOf polarityBit
-pilotSign width streams format n i q = patternOf width streams i ((n + q) % pilotsOf width) *ℤ signOf (polarityBit format n)
+unfoldable pub pilot_sign : (width streams format n i q : ℕ) → ℤ
+unfolding pattern_of polarity_bit
+pilot_sign width streams format n i q = pattern_of width streams i ((n + q) % pilots_of width) *ℤ sign_of (polarity_bit format n)
 
 -- a pilot of a frame
 pub record PilotAsked (width streams i q : ℕ) : Type 0 where
-  pub known-width : T (among widths width)
-  pub known-streams : T (among streamCounts streams)
+  pub known_width : T (among widths width)
+  pub known_streams : T (among stream_counts streams)
   pub stream : i < streams
-  pub place : q < pilotsOf width
+  pub place : q < pilots_of width

@@ -1,115 +1,19 @@
 // The published values of IEEE 802.11 that the coding chain reaches, printed one a line: the scrambler's period from seed 127, and of Annex G's
 // message (100 bytes, seed 93, 16-QAM at rate 3/4) the first 48 encoder inputs and the first 192 coded bits.
-use chain::plan::MOST_CODED;
-use chain::plan::MOST_LINE;
+ghost use Rattle.std.specs.Prelude.{◌+◌, ◌≤◌, length};
+
+use chain::plan::{MOST_CODED, MOST_LINE};
 use inputs::line::coder_inputs;
 use libc::STDOUT_FILENO;
 use puncturing::coded::coded_bits;
 use scrambler::outputs::scrambler_outputs;
-ghost use Prim.Native.Nat.{_+_, _≤_};
-ghost use lib.ListN.{length};
 
 const MESSAGE: [u8; 100] = [
-    4,
-    2,
-    0,
-    46,
-    0,
-    96,
-    8,
-    205,
-    55,
-    166,
-    0,
-    32,
-    214,
-    1,
-    60,
-    241,
-    0,
-    96,
-    8,
-    173,
-    59,
-    175,
-    0,
-    0,
-    74,
-    111,
-    121,
-    44,
-    32,
-    98,
-    114,
-    105,
-    103,
-    104,
-    116,
-    32,
-    115,
-    112,
-    97,
-    114,
-    107,
-    32,
-    111,
-    102,
-    32,
-    100,
-    105,
-    118,
-    105,
-    110,
-    105,
-    116,
-    121,
-    44,
-    10,
-    68,
-    97,
-    117,
-    103,
-    104,
-    116,
-    101,
-    114,
-    32,
-    111,
-    102,
-    32,
-    69,
-    108,
-    121,
-    115,
-    105,
-    117,
-    109,
-    44,
-    10,
-    70,
-    105,
-    114,
-    101,
-    45,
-    105,
-    110,
-    115,
-    105,
-    114,
-    101,
-    100,
-    32,
-    119,
-    101,
-    32,
-    116,
-    114,
-    101,
-    97,
-    103,
-    51,
-    33,
-    182,
+    4, 2, 0, 46, 0, 96, 8, 205, 55, 166, 0, 32, 214, 1, 60, 241, 0, 96, 8, 173, 59, 175, 0, 0, 74,
+    111, 121, 44, 32, 98, 114, 105, 103, 104, 116, 32, 115, 112, 97, 114, 107, 32, 111, 102, 32,
+    100, 105, 118, 105, 110, 105, 116, 121, 44, 10, 68, 97, 117, 103, 104, 116, 101, 114, 32, 111,
+    102, 32, 69, 108, 121, 115, 105, 117, 109, 44, 10, 70, 105, 114, 101, 45, 105, 110, 115, 105,
+    114, 101, 100, 32, 119, 101, 32, 116, 114, 101, 97, 103, 51, 33, 182,
 ];
 
 fn digit(bit: u8) -> [u8; 1] {
@@ -118,7 +22,7 @@ fn digit(bit: u8) -> [u8; 1] {
 
 // Bits as digits, ended by a line feed.
 fn print_bits(bits: &[u8], from: usize, count: usize)
-    requires { ⌜ from + count ≤ length (now bits) ⌝ }
+    requires { from + count ≤ length bits.now }
 {
     let mut i: usize = 0;
     while i < count {

@@ -1,16 +1,15 @@
 // Puncturing: where among the sums each kept bit stands, and the coded bits of a symbol.
+ghost use Rattle.std.specs.Prelude.{◌≡◌, ◌+◌, ◌*◌, get_or};
+ghost use Rattle.laws.specs.Filled.{Filled};
+ghost use Rattle.puncturing.specs.Coded.{sum_place, PlaceAsked, PlacesAsked, PickAsked, CodedAsked, Coded};
+
 use chain::plan::MOST_CODED;
 use encoder::sums::both_sums;
-ghost use mathlib.Core.Path.{_≡_};
-ghost use Prim.Native.Nat.{_+_, _*_};
-ghost use lib.ListN.{getD};
-ghost use Rattle·laws.specs.Filled.{Filled};
-ghost use Rattle·puncturing·specs.specs.Coded.{sumPlace, PlaceAsked, PlacesAsked, PickAsked, CodedAsked, Coded};
 
 // Where the sum stands that kept bit y of encoder 0 is: each group of `kept` bits is A0 B0 A1 B2 A3 B4, as far as it goes.
 fn sum_place(kept: u16, encoders: u16, y: u16) -> u16
-    requires { ⌜ PlaceAsked kept encoders y ⌝ }
-    ensures { λ r. ⌜ r ≡ sumPlace kept encoders y ⌝ }
+    requires { PlaceAsked kept encoders y }
+    ensures { result ≡ sum_place kept encoders y }
 {
     if kept == 2 {
         return y % 2 * 2160 + encoders * (y / 2);
@@ -25,8 +24,8 @@ fn sum_place(kept: u16, encoders: u16, y: u16) -> u16
 }
 
 fn sum_places(places: &mut [u16], kept: u16, encoders: u16, count: u16)
-    requires { ⌜ PlacesAsked (now places) kept encoders count ⌝ }
-    ensures { λ _. ⌜ Filled 0 0 (λ y. sumPlace kept encoders y) count (now (places .entry)) (now (places .exit)) ⌝ }
+    requires { PlacesAsked places.old kept encoders count }
+    ensures { Filled 0 0 (λ y. sum_place kept encoders y) count places.old places.new }
 {
     let mut y: u16 = 0;
     while y < count {
@@ -37,8 +36,8 @@ fn sum_places(places: &mut [u16], kept: u16, encoders: u16, count: u16)
 
 // The bits of encoder j: its sums stand j places after those of encoder 0.
 fn pick(coded: &mut [u8], sums: &[u8], places: &[u16], to: usize, j: usize, count: usize)
-    requires { ⌜ PickAsked (now coded) (now sums) (now places) to j count ⌝ }
-    ensures { λ _. ⌜ Filled 0 to (λ y. getD (now (sums .entry)) (getD (now (places .entry)) y 0 + j) 0) count (now (coded .entry)) (now (coded .exit)) ⌝ }
+    requires { PickAsked coded.old sums.now places.now to j count }
+    ensures { Filled 0 to (λ y. get_or sums.now (get_or places.now y 0 + j) 0) count coded.old coded.new }
 {
     let mut y: usize = 0;
     while y < count {
@@ -49,8 +48,8 @@ fn pick(coded: &mut [u8], sums: &[u8], places: &[u16], to: usize, j: usize, coun
 
 // The coded bits of a symbol: bit y of encoder j at 1296·j + y.
 pub fn coded_bits(coded: &mut [u8], line: &[u8], encoders: usize, kept: usize, groups: usize)
-    requires { ⌜ CodedAsked (now coded) (now line) encoders kept groups ⌝ }
-    ensures { λ _. ⌜ Coded (λ e. getD (now (line .entry)) e 0) encoders kept (kept * groups) (now (coded .entry)) (now (coded .exit)) ⌝ }
+    requires { CodedAsked coded.old line.now encoders kept groups }
+    ensures { Coded (λ e. get_or line.now e 0) encoders kept (kept * groups) coded.old coded.new }
 {
     let mut sums = [0u8; 4320];
     let mut places = [0u16; MOST_CODED];

@@ -1,41 +1,30 @@
 // What one subcarrier of one stream carries in a symbol (document 01, the one-subcarrier question).
-use chain::plan::MOST_HALVES;
-use chain::plan::axis_bits;
+ghost use Rattle.std.specs.Prelude.{◌≡◌, ◌<◌, ◌≤◌, length};
+ghost use Rattle.mapper.specs.Levels.{whole, carrier_levels, point_of};
+ghost use Rattle.subcarriers.specs.Subcarriers.{pilots_of, Inside};
+ghost use Rattle.pilots.specs.Pilots.{pilot_sign};
+ghost use Rattle.settings.specs.Settings.{check_of, plan_for, Right};
+ghost use Rattle.frame.specs.Points.{labels_of};
+ghost use Rattle.frame.specs.Asked.{InFrame};
+ghost use Rattle.query.specs.Query.{carried_of, not_in_frame, query_of};
+
+use chain::plan::{MOST_HALVES, axis_bits};
 use frame::points::labels_of;
-use mapper::point::Point;
-use mapper::point::data_point;
-use mapper::point::level_table;
-use pilots::pilot::pilot_sign;
-use pilots::pilot::polarity_bit;
-use settings::settings::Checked;
-use settings::settings::RawSettings;
-use settings::settings::Refusal;
-use settings::settings::Settings;
-use settings::settings::check;
-use settings::settings::plan_of;
-use settings::settings::refusal_of;
-use subcarriers::layout::Use;
-use subcarriers::layout::is_outside;
-use subcarriers::layout::use_of;
+use mapper::point::{Point, data_point, level_table};
+use pilots::pilot::{pilot_sign, polarity_bit};
+use settings::settings::{Checked, RawSettings, Refusal, Settings, check, plan_of, refusal_of};
+use subcarriers::layout::{Use, is_outside, use_of};
 use symbols::count::symbols_of;
-ghost use mathlib.Core.Path.{_≡_};
-ghost use Prim.Native.Nat.{_<_, _≤_};
-ghost use lib.ListN.{length};
-ghost use Rattle·mapper.specs.Levels.{whole, carrierLevels, pointOf};
-ghost use Rattle·subcarriers.specs.Subcarriers.{pilotsOf, Inside};
-ghost use Rattle·pilots.specs.Pilots.{pilotSign};
-ghost use Rattle·settings.specs.Settings.{checkOf, planFor, Right};
-ghost use Rattle·frame.specs.Points.{labelsOf};
-ghost use Rattle·frame.specs.Asked.{InFrame};
-ghost use Rattle·query·specs.specs.Query.{carriedOf, notInFrame, queryOf};
 
 // Nothing, a pilot's sign, or a data point before the upper half's turn.
+#[derive(Drop)]
 pub enum Carried {
     Silent,
     Pilot(f32),
     Data(Point),
 }
 
+#[derive(Drop)]
 pub enum QueryAnswer {
     Carries(Carried),
     Refused(Refusal),
@@ -43,8 +32,8 @@ pub enum QueryAnswer {
 
 // The pilot at place q.
 fn pilot_at(s: Settings, n: usize, i: usize, q: usize) -> f32
-    requires { ⌜ Right s × ((n ≤ 32768) × ((i < planFor s .streams) × (q < pilotsOf (planFor s .width)))) ⌝ }
-    ensures { λ r. ⌜ r ≡ whole (pilotSign (planFor s .width) (planFor s .streams) (s .format) n i q) ⌝ }
+    requires { Right s × ((n ≤ 32768) × ((i < (plan_for s).streams) × (q < pilots_of (plan_for s).width))) }
+    ensures { result ≡ whole (pilot_sign (plan_for s).width (plan_for s).streams s.format n i q) }
 {
     let plan = plan_of(s);
     let polarity = polarity_bit(s.format as usize, n);
@@ -53,8 +42,8 @@ fn pilot_at(s: Settings, n: usize, i: usize, q: usize) -> f32
 
 // The point of data carrier c.
 fn point_at(payload: &[u8], s: Settings, n: usize, i: usize, c: usize) -> Point
-    requires { ⌜ InFrame s (now payload) n × ((i < planFor s .streams) × (c < planFor s .carriers)) ⌝ }
-    ensures { λ r. ⌜ r ≡ pointOf (carrierLevels (planFor s .bits) (labelsOf s (now (payload .entry)) n i) c) ⌝ }
+    requires { InFrame s payload.now n × ((i < (plan_for s).streams) × (c < (plan_for s).carriers)) }
+    ensures { result ≡ point_of (carrier_levels (plan_for s).bits (labels_of s payload.now n i) c) }
 {
     let mut halves = [0u8; MOST_HALVES];
     labels_of(&mut halves, payload, s, n);
@@ -72,8 +61,8 @@ fn point_at(payload: &[u8], s: Settings, n: usize, i: usize, c: usize) -> Point
 
 // What is carried where symbol, stream and subcarrier are in the frame.
 fn carried_at(payload: &[u8], s: Settings, n: usize, i: usize, subcarrier: i32) -> Carried
-    requires { ⌜ InFrame s (now payload) n × ((i < planFor s .streams) × Inside (planFor s .width) subcarrier) ⌝ }
-    ensures { λ r. ⌜ r ≡ carriedOf s (now (payload .entry)) n i subcarrier ⌝ }
+    requires { InFrame s payload.now n × ((i < (plan_for s).streams) × Inside (plan_for s).width subcarrier) }
+    ensures { result ≡ carried_of s payload.now n i subcarrier }
 {
     let used = use_of(s.width as usize, subcarrier);
     match used {
@@ -85,8 +74,8 @@ fn carried_at(payload: &[u8], s: Settings, n: usize, i: usize, subcarrier: i32) 
 
 // Whether symbol, stream or subcarrier is not in the frame.
 fn not_in_frame(s: Settings, symbol: u64, stream: u64, subcarrier: i32) -> bool
-    requires { ⌜ Right s ⌝ }
-    ensures { λ r. ⌜ r ≡ notInFrame s symbol stream subcarrier ⌝ }
+    requires { Right s }
+    ensures { result ≡ not_in_frame s symbol stream subcarrier }
 {
     let plan = plan_of(s);
     (symbol >= symbols_of(s))
@@ -101,7 +90,7 @@ pub fn subcarrier(
     stream: u64,
     subcarrier: i32,
 ) -> QueryAnswer
-    ensures { λ r. ⌜ r ≡ queryOf (checkOf raw) (now (payload .entry)) symbol stream subcarrier ⌝ }
+    ensures { result ≡ query_of (check_of raw) payload.now symbol stream subcarrier }
 {
     let checked = check(raw);
     let Checked::Accepted(s) = checked else {

@@ -1,23 +1,20 @@
 -- What the step's inner functions ask.
-use mathlib.Core.List.{List}
-use Prim.Native.Nat.{ℕ, _*_, _<_, _≤_}
-use lib.ListN.{length, getD}
-use lib.Ieee.{Float}
-use Rattle·settings.specs.declared.settings.Settings.{Settings}
-use Rattle·settings.specs.Settings.{planFor, Right}
-use Rattle·frame.specs.Points.{floatsOf}
-use Rattle·reader_state.specs.declared.state.Reader.{Reader}
-use Rattle·reader_state.specs.State.{InRange}
+use Rattle.std.specs.Prelude.{List, ℕ, ◌*◌, ◌<◌, ◌≤◌, length, get_or, Float}
+use Rattle.settings.specs.declared.settings.Settings.{Settings}
+use Rattle.settings.specs.Settings.{plan_for, Right}
+use Rattle.frame.specs.Points.{floats_of}
+use Rattle.reader_state.specs.declared.state.Reader.{Reader}
+use Rattle.reader_state.specs.State.{InRange}
 
 pub record HearBitsAsked (s : Settings) (st : Reader) (bits payload : List ℕ) : Type 0 where
   pub right : Right s
-  pub in-range : InRange s st
-  pub whole-bits : planFor s .streams * planFor s .block ≤ length bits
-  pub one-bit : (k : ℕ) → getD bits k 0 < 2
-  pub whole-payload : s .length ≤ length payload
+  pub in_range : InRange s st
+  pub whole_bits_lem : (plan_for s).streams * (plan_for s).block ≤ length bits
+  pub one_bit_lem : (k : ℕ) → get_or bits k 0 < 2
+  pub whole_payload : s.length ≤ length payload
 
 pub record PointsAsked (s : Settings) (st : Reader) (points : List Float) (payload : List ℕ) : Type 0 where
   pub right : Right s
-  pub in-range : InRange s st
-  pub whole-points : floatsOf s ≤ length points
-  pub whole-payload : s .length ≤ length payload
+  pub in_range : InRange s st
+  pub whole_points : floats_of s ≤ length points
+  pub whole_payload : s.length ≤ length payload

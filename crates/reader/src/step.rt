@@ -1,37 +1,26 @@
 // One step of the reader: a symbol's points, its label bits, and its inputs, which `acceptance` goes on from.
-use acceptance::accept::StepAnswer;
-use acceptance::accept::Stepped;
-use acceptance::accept::hear_inputs;
-use chain::plan::MOST_CODED;
-use chain::plan::MOST_DATA;
+ghost use Rattle.std.specs.Prelude.{◌≡◌, length};
+ghost use Rattle.settings.specs.Settings.{plan_for};
+ghost use Rattle.detector.specs.Detected.{search_of, shown_bit};
+ghost use Rattle.deinterleaver.specs.Deinterleaved.{label_bit_in};
+ghost use Rattle.acceptance.specs.Accepted.{bytes_into, step_into_by};
+ghost use Rattle.reader.specs.Step.{by_code, heard_input, by_search, step_of, step_into};
+ghost use Rattle.reader.specs.Asked.{HearBitsAsked, PointsAsked};
+
+use acceptance::accept::{StepAnswer, Stepped, hear_inputs};
+use chain::plan::{MOST_CODED, MOST_DATA};
 use decoder::forced::symbol_inputs;
-use detector::search::Search;
-use detector::search::symbol_bits;
+use detector::search::{Search, symbol_bits};
 use frame::points::floats_of;
-use reader_state::state::Reader;
-use reader_state::state::ended;
-use reader_state::state::is_closed;
-use reader_state::state::raw_of;
-use settings::settings::Checked;
-use settings::settings::Refusal;
-use settings::settings::Settings;
-use settings::settings::check;
-use settings::settings::plan_of;
+use reader_state::state::{Reader, ended, is_closed, raw_of};
+use settings::settings::{Checked, Refusal, Settings, check, plan_of};
 use subcarriers::layout::subcarrier_of;
-ghost use mathlib.Core.Path.{_≡_};
-ghost use lib.ListN.{length};
-ghost use Rattle·settings.specs.Settings.{planFor};
-ghost use Rattle·detector.specs.Detected.{searchOf, shownBit};
-ghost use Rattle·deinterleaver.specs.Deinterleaved.{labelBitIn};
-ghost use Rattle·acceptance.specs.Accepted.{bytesInto, stepIntoBy};
-ghost use Rattle·reader·specs.specs.Step.{byCode, heardInput, bySearch, stepOf, stepInto};
-ghost use Rattle·reader·specs.specs.Asked.{HearBitsAsked, PointsAsked};
 
 // From the symbol's label bits on: 10, and what the inputs give.
 fn hear_bits(reader: Reader, s: Settings, bits: &[u8], payload: &mut [u8]) -> Stepped
-    requires { ⌜ HearBitsAsked s reader (now bits) (now payload) ⌝ }
-    ensures { λ r. ⌜ r ≡ byCode s reader (labelBitIn (planFor s) (now (bits .entry))) ⌝ }
-    ensures { λ r. ⌜ now (payload .exit) ≡ stepIntoBy (r .answer) (bytesInto s reader (heardInput s reader (labelBitIn (planFor s) (now (bits .entry)))) (now (payload .entry))) (now (payload .entry)) ⌝ }
+    requires { HearBitsAsked s reader bits.now payload.old }
+    ensures value { result ≡ by_code s reader (label_bit_in (plan_for s) bits.now) }
+    ensures payload_after { payload.new ≡ step_into_by result.answer (bytes_into s reader (heard_input s reader (label_bit_in (plan_for s) bits.now)) payload.old) payload.old }
 {
     let mut inputs = [0u8; MOST_DATA];
     let histories = reader.histories;
@@ -49,9 +38,9 @@ fn hear_bits(reader: Reader, s: Settings, bits: &[u8], payload: &mut [u8]) -> St
 
 // From the symbol's points on: 9 with its place, and what the label bits give.
 fn hear_points(reader: Reader, s: Settings, points: &[f32], payload: &mut [u8]) -> Stepped
-    requires { ⌜ PointsAsked s reader (now points) (now payload) ⌝ }
-    ensures { λ r. ⌜ r ≡ bySearch (searchOf (planFor s) (now (points .entry)) (s .format) (reader .symbol)) s reader (now (points .entry)) ⌝ }
-    ensures { λ r. ⌜ now (payload .exit) ≡ stepIntoBy (r .answer) (bytesInto s reader (heardInput s reader (shownBit (planFor s) (now (points .entry)))) (now (payload .entry))) (now (payload .entry)) ⌝ }
+    requires { PointsAsked s reader points.now payload.old }
+    ensures value { result ≡ by_search (search_of (plan_for s) points.now s.format reader.symbol) s reader points.now }
+    ensures payload_after { payload.new ≡ step_into_by result.answer (bytes_into s reader (heard_input s reader (shown_bit (plan_for s) points.now)) payload.old) payload.old }
 {
     let mut bits = [0u8; MOST_CODED];
     let found = symbol_bits(
@@ -73,8 +62,8 @@ fn hear_points(reader: Reader, s: Settings, points: &[f32], payload: &mut [u8]) 
 
 // The public step: the symbol's points judged, and its complete bytes written only where it is accepted.
 pub fn step(reader: Reader, points: &[f32], payload: &mut [u8]) -> Stepped
-    ensures { λ r. ⌜ r ≡ stepOf reader (now (points .entry)) (length (now (payload .entry))) ⌝ }
-    ensures { λ _. ⌜ now (payload .exit) ≡ stepInto reader (now (points .entry)) (now (payload .entry)) ⌝ }
+    ensures value { result ≡ step_of reader points.now (length payload.old) }
+    ensures payload_after { payload.new ≡ step_into reader points.now payload.old }
 {
     let open = reader.settings;
     let checked = check(raw_of(open));

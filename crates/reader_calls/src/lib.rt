@@ -1,25 +1,19 @@
 // The reader's calls as C callers see them: a state and an answer as one number, a refusal as its number negated or beside the state.
+ghost use Rattle.std.specs.Prelude.{◌≡◌, ◌<◌, length, pos};
+ghost use Rattle.reader_state.specs.State.{start_of};
+ghost use Rattle.reader_numbers.specs.Numbers.{start_result, closed_number, step_result, step_result_into, place_result};
+
 use conversions::refused;
 use reader::step;
-use reader_numbers::place_number;
-use reader_numbers::reader_of;
-use reader_numbers::state_number;
-use reader_numbers::stepped_number;
+use reader_numbers::{place_number, reader_of, state_number, stepped_number};
 use reader_place::place;
 use reader_state::state;
-use reader_state::state::OpenSettings;
-use reader_state::state::StartAnswer;
+use reader_state::state::{OpenSettings, StartAnswer};
 use settings::settings::Refusal;
-ghost use mathlib.Core.Path.{_≡_};
-ghost use Prim.Native.Nat.{_<_};
-ghost use lib.ListN.{length};
-ghost use lib.IntN.{pos};
-ghost use Rattle·reader_state.specs.State.{startOf};
-ghost use Rattle·reader_numbers.specs.Numbers.{startResult, closedNumber, stepResult, stepResultInto, placeResult};
 
 // The reader's state before symbol 0.
 pub fn start_call(settings: OpenSettings) -> i64
-    ensures { λ r. ⌜ r ≡ startResult (startOf settings) ⌝ }
+    ensures { result ≡ start_result (start_of settings) }
 {
     let started = state::start(settings);
     let answer = started.answer;
@@ -32,15 +26,15 @@ pub fn start_call(settings: OpenSettings) -> i64
 
 // What comes back for a number that is no state: its end is marked, so that no step from it is ever open.
 fn closed_number(state: u64) -> u64
-    ensures { λ r. ⌜ (r ≡ closedNumber state) × (r < 562949953421312) ⌝ }
+    ensures { (result ≡ closed_number state) × (result < 562949953421312) }
 {
     state % 281474976710656 + 281474976710656
 }
 
 // One symbol read: the refusal's number, the seed and the state in one number.
 pub fn step_call(settings: OpenSettings, state: u64, points: &[f32], payload: &mut [u8]) -> i64
-    ensures { λ r. ⌜ r ≡ pos (stepResult settings state (now (points .entry)) (length (now (payload .entry)))) ⌝ }
-    ensures { λ _. ⌜ now (payload .exit) ≡ stepResultInto settings state (now (points .entry)) (now (payload .entry)) ⌝ }
+    ensures value { result ≡ pos (step_result settings state points.now (length payload.old)) }
+    ensures payload_after { payload.new ≡ step_result_into settings state points.now payload.old }
 {
     let no_state = state >= 562949953421312;
     if no_state {
@@ -52,7 +46,7 @@ pub fn step_call(settings: OpenSettings, state: u64, points: &[f32], payload: &m
 
 // The place of the first point that a step from this state refuses.
 pub fn place_call(settings: OpenSettings, state: u64, points: &[f32]) -> i64
-    ensures { λ r. ⌜ r ≡ placeResult settings state (now (points .entry)) ⌝ }
+    ensures { result ≡ place_result settings state points.now }
 {
     let no_state = state >= 562949953421312;
     if no_state {

@@ -1,34 +1,34 @@
 -- The number of a place, and of an answer that is none. Assumes nothing.
-use mathlib.Core.Path.{_≡_, _∙_, sym, ap}
-use Prim.Native.Nat.{ℕ, _+_, _*_, _<_}
+use mathlib.Core.Path.{◌≡◌, ◌∙◌, sym, ap}
+use Prim.Native.Nat.{ℕ, ◌+◌, ◌*◌, ◌<◌}
 use native.Mathlib.Omega.{arith}
-use borrow.Author.Tests.{ne-eqb}
-use lib.IntN.{ℤ, pos, _+ℤ_}
-use Rattle·laws.specs.Integers.{counted}
-use Rattle·laws.specs.Claim.{Claim, _is_, upTo, Holds, sound}
-use Rattle·laws.proofs.Integers.{counted-same}
-use Rattle·settings.specs.declared.settings.Refusal.{Refusal}
-use Rattle·settings.specs.Settings.{numberOf}
-use Rattle·settings.proofs.SettingsLaws.{number-range}
-use Rattle·subcarriers.specs.Subcarriers.{subcarrierFrom}
-use Rattle·reader_place.specs.declared.place.PlaceAnswer.the-variants.{Refused as PlaceRefused}
-use Rattle·conversions.specs.Results.{refusedResult}
-use Rattle·reader_numbers·specs.specs.Numbers.{placedResult}
+use borrow.Author.Tests.{ne_eqb}
+use lib.IntN.{ℤ, pos, ◌+ℤ◌}
+use Rattle.laws.specs.Integers.{counted}
+use Rattle.laws.specs.Claim.{Claim, ◌is◌, up_to, Holds, sound}
+use Rattle.laws.proofs.Integers.{counted_same}
+use Rattle.settings.specs.declared.settings.Refusal.{Refusal}
+use Rattle.settings.specs.Settings.{number_of}
+use Rattle.settings.proofs.SettingsLaws.{number_range}
+use Rattle.subcarriers.specs.Subcarriers.{subcarrier_from}
+use Rattle.reader_place.specs.declared.place.PlaceAnswer.TheVariants.{Refused as PlaceRefused}
+use Rattle.conversions.specs.Results.{refused_result}
+use Rattle.reader_numbers.specs.Numbers.{placed_result}
 
-abbrev placeClaim : Claim
-placeClaim = upTo 128 λ k. counted (subcarrierFrom k +ℤ pos 128) is counted (pos (k + 64))
+abbrev place_claim : Claim
+place_claim = up_to 128 λ k. counted (subcarrier_from k +ℤ pos 128) is counted (pos (k + 64))
 
-places : Holds placeClaim
-places = sound placeClaim tt
+places : Holds place_claim
+places = sound place_claim tt
 
 -- the subcarrier, counted from -128 on
-pub place-sum-is : (k : ℕ) (z : ℤ) → subcarrierFrom k ≡ z → k < 128 → pos (k + 64) ≡ z +ℤ pos 128
-place-sum-is k z e l = sym (counted-same (subcarrierFrom k +ℤ pos 128) (pos (k + 64)) (places k l)) ∙ ap (λ (y : ℤ). y +ℤ pos 128) e
+pub place_sum_is : (k : ℕ) (z : ℤ) → subcarrier_from k ≡ z → k < 128 → pos (k + 64) ≡ z +ℤ pos 128
+place_sum_is k z e l = sym (counted_same (subcarrier_from k +ℤ pos 128) (pos (k + 64)) (places k l)) ∙ ap (λ (y : ℤ). y +ℤ pos 128) e
 
 -- a place's number
-pub place-number-is : (stream k : ℕ) (z : ℤ) → subcarrierFrom k ≡ z → k < 128 → pos (256 * stream + (k + 64)) ≡ pos (256 * stream) +ℤ (z +ℤ pos 128)
-place-number-is stream k z e l = ap (λ (y : ℤ). pos (256 * stream) +ℤ y) (place-sum-is k z e l)
+pub place_number_is : (stream k : ℕ) (z : ℤ) → subcarrier_from k ≡ z → k < 128 → pos (256 * stream + (k + 64)) ≡ pos (256 * stream) +ℤ (z +ℤ pos 128)
+place_number_is stream k z e l = ap (λ (y : ℤ). pos (256 * stream) +ℤ y) (place_sum_is k z e l)
 
 -- a refusal that is no 9 is its number negated
-pub refused-placed : (r : Refusal) → (numberOf r ≡ 9 → ⊥) → refusedResult r ≡ placedResult (PlaceRefused r)
-refused-placed r other = simp (ne-eqb (numberOf r) 0 (λ e. omega (arith, e, number-range r .0)), ne-eqb (numberOf r) 9 other)
+pub refused_placed : (r : Refusal) → (number_of r ≡ 9 → ⊥) → refused_result r ≡ placed_result (PlaceRefused r)
+refused_placed r other = simp (ne_eqb (number_of r) 0 (λ e. omega (arith, e, (number_range r).0)), ne_eqb (number_of r) 9 other)

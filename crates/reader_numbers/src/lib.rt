@@ -1,20 +1,16 @@
 // The reader's settings, states and answers as the numbers of the C calls.
-use acceptance::accept::StepAnswer;
-use acceptance::accept::Stepped;
-use conversions::byte_number;
-use conversions::refused;
+ghost use Rattle.std.specs.Prelude.{◌≡◌, ◌*◌, ◌<◌, pos, ◌+ℤ◌};
+ghost use Rattle.subcarriers.specs.Subcarriers.{Inside};
+ghost use Rattle.reader.specs.Step.{step_number, step_seed};
+ghost use Rattle.reader_numbers.specs.Numbers.{open_of, state_number, reader_of, stepped_number, placed_result, PlaceRight};
+
+use acceptance::accept::{StepAnswer, Stepped};
+use conversions::{byte_number, refused};
 use reader_place::place::PlaceAnswer;
-use reader_state::state::OpenSettings;
-use reader_state::state::Reader;
+use reader_state::state::{OpenSettings, Reader};
 use settings::settings::number;
 use sig_words::words::one;
 use subcarriers::layout::index;
-ghost use mathlib.Core.Path.{_≡_};
-ghost use Prim.Native.Nat.{_*_, _<_};
-ghost use lib.IntN.{pos, _+ℤ_};
-ghost use Rattle·subcarriers.specs.Subcarriers.{Inside};
-ghost use Rattle·reader.specs.Step.{stepNumber, stepSeed};
-ghost use Rattle·reader_numbers·specs.specs.Numbers.{openOf, stateNumber, readerOf, steppedNumber, placedResult, PlaceRight};
 
 // The settings of a call: a flag is off at 0 and on at any other number.
 pub fn open_settings(
@@ -27,7 +23,7 @@ pub fn open_settings(
     aggregation: u32,
     short_guard: u32,
 ) -> OpenSettings
-    ensures { λ r. ⌜ r ≡ openOf width mcs format length smoothing «not_sounding» aggregation «short_guard» ⌝ }
+    ensures { result ≡ open_of width mcs format length smoothing not_sounding aggregation short_guard }
 {
     OpenSettings {
         width: width as u64,
@@ -43,21 +39,20 @@ pub fn open_settings(
 
 // A state as a number.
 pub fn state_number(reader: Reader) -> u64
-    requires { ⌜ reader .symbol < 65536 ⌝ }
-    ensures { λ r. ⌜ (r ≡ stateNumber reader) × (r < 562949953421312) ⌝ }
+    requires { reader.symbol < 65536 }
+    ensures { (result ≡ state_number reader) × (result < 562949953421312) }
 {
     let first = byte_number(reader.histories[0]);
     let second = byte_number(reader.histories[1]);
     let low = reader.symbol + 65536 * first + 16777216 * second;
-    low
-        + 4294967296 * byte_number(reader.scrambler)
+    low + 4294967296 * byte_number(reader.scrambler)
         + 1099511627776 * byte_number(reader.part)
         + 281474976710656 * one(reader.ended)
 }
 
 // The state that a number is.
 pub fn reader_of(settings: OpenSettings, state: u64) -> Reader
-    ensures { λ r. ⌜ r ≡ readerOf settings state ⌝ }
+    ensures { result ≡ reader_of settings state }
 {
     Reader {
         settings,
@@ -70,7 +65,7 @@ pub fn reader_of(settings: OpenSettings, state: u64) -> Reader
 }
 
 fn answer_number(answer: StepAnswer) -> u64
-    ensures { λ r. ⌜ (r ≡ stepNumber answer) × (r < 16) ⌝ }
+    ensures { (result ≡ step_number answer) × (result < 16) }
 {
     match answer {
         StepAnswer::First(_) => 0,
@@ -81,7 +76,7 @@ fn answer_number(answer: StepAnswer) -> u64
 }
 
 fn answer_seed(answer: StepAnswer) -> u64
-    ensures { λ r. ⌜ (r ≡ stepSeed answer) × (r < 256) ⌝ }
+    ensures { (result ≡ step_seed answer) × (result < 256) }
 {
     match answer {
         StepAnswer::First(seed) => byte_number(seed),
@@ -93,8 +88,8 @@ fn answer_seed(answer: StepAnswer) -> u64
 
 // What a step gives back, as one number.
 pub fn stepped_number(stepped: Stepped) -> u64
-    requires { ⌜ stepped .state .symbol < 65536 ⌝ }
-    ensures { λ r. ⌜ (r ≡ steppedNumber stepped) × (r < 4611686018427387904) ⌝ }
+    requires { stepped.state.symbol < 65536 }
+    ensures { (result ≡ stepped_number stepped) × (result < 4611686018427387904) }
 {
     let answer = stepped.answer;
     let state = stepped.state;
@@ -103,16 +98,16 @@ pub fn stepped_number(stepped: Stepped) -> u64
 
 // A place as a number: 256 for each stream, and the subcarrier counted from -128 on.
 fn found_number(stream: u8, subcarrier: i32) -> u64
-    requires { ⌜ Inside 40 subcarrier ⌝ }
-    ensures { λ r. ⌜ (pos r ≡ pos (256 * stream) +ℤ (subcarrier +ℤ pos 128)) × (r < 65536) ⌝ }
+    requires { Inside 40 subcarrier }
+    ensures { (pos result ≡ pos (256 * stream) +ℤ (subcarrier +ℤ pos 128)) × (result < 65536) }
 {
     256 * byte_number(stream) + (index(subcarrier) as u64 + 64)
 }
 
 // The place of a point, 65,535 where there is none, or the refusal's number negated.
 pub fn place_number(answer: PlaceAnswer) -> i64
-    requires { ⌜ PlaceRight answer ⌝ }
-    ensures { λ r. ⌜ r ≡ placedResult answer ⌝ }
+    requires { PlaceRight answer }
+    ensures { result ≡ placed_result answer }
 {
     match answer {
         PlaceAnswer::Passed => 65535,

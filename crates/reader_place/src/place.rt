@@ -1,20 +1,16 @@
 // The place of the first failing point, for a caller that a step has told of one.
+ghost use Rattle.std.specs.Prelude.{◌≡◌};
+ghost use Rattle.reader_place.specs.Place.{place_of};
+
 use chain::plan::MOST_CODED;
-use detector::search::Search;
-use detector::search::symbol_bits;
+use detector::search::{Search, symbol_bits};
 use frame::points::floats_of;
-use reader_state::state::Reader;
-use reader_state::state::is_closed;
-use reader_state::state::raw_of;
-use settings::settings::Checked;
-use settings::settings::Refusal;
-use settings::settings::check;
-use settings::settings::plan_of;
+use reader_state::state::{Reader, is_closed, raw_of};
+use settings::settings::{Checked, Refusal, check, plan_of};
 use subcarriers::layout::subcarrier_of;
-ghost use mathlib.Core.Path.{_≡_};
-ghost use Rattle·reader_place·specs.specs.Place.{placeOf};
 
 // Every point passes, or the first that does not: its stream and its subcarrier's own number.
+#[derive(Drop)]
 pub enum PlaceAnswer {
     Passed,
     Found(u8, i32),
@@ -23,7 +19,7 @@ pub enum PlaceAnswer {
 
 // The public place call.
 pub fn place(reader: Reader, points: &[f32]) -> PlaceAnswer
-    ensures { λ r. ⌜ r ≡ placeOf reader (now (points .entry)) ⌝ }
+    ensures { result ≡ place_of reader points.now }
 {
     let open = reader.settings;
     let checked = check(raw_of(open));

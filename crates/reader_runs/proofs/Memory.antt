@@ -1,89 +1,89 @@
 -- What the payload slices hold that a run's steps are lent: the frame's bytes that are complete, and all else as it was. Assumes nothing.
-use mathlib.Core.Path.{_≡_, _∙_, sym, ap, subst}
-use mathlib.Core.List.{List, _++_}
-use Prim.Native.Nat.{ℕ, zero, suc, _+_, _-_, _*_, _/_, _<_, _≤_}
+use mathlib.Core.Path.{◌≡◌, ◌∙◌, sym, ap, subst}
+use mathlib.Core.List.{List, ◌++◌}
+use Prim.Native.Nat.{ℕ, zero, suc, ◌+◌, ◌-◌, ◌*◌, ◌/◌, ◌<◌, ◌≤◌}
 use native.Mathlib.Nat.{zero-mul, suc-mul}
 use native.Mathlib.Numerals.{add-one}
 use native.Mathlib.Omega.{arith}
 use lib.ListN.{length, take, drop}
 use lib.Ieee.{Float}
-use Rattle·laws.specs.Filled.{Filled}
-use Rattle·laws.specs.Firsts.{firsts}
-use Rattle·laws.proofs.Filling.{fill-none, fill-join, fill-from, fill-end}
-use Rattle·laws.proofs.Firsts.{into-fill}
-use Rattle·settings.specs.declared.settings.Settings.{Settings}
-use Rattle·settings.specs.declared.settings.Checked.the-variants.{Accepted}
-use Rattle·settings.specs.Settings.{checkOf, planFor, Right}
-use Rattle·symbols.specs.Symbols.{symbolsOf}
-use Rattle·symbols.proofs.CountLaws.{symbols-least}
-use Rattle·assembler.specs.Assembled.{byteOf}
-use Rattle·reader_state.specs.declared.state.OpenSettings.{OpenSettings}
-use Rattle·reader_state.specs.State.{openRaw}
-use Rattle·acceptance.specs.Accepted.{bitsBefore}
-use Rattle·reader_runs·specs.specs.Run.{sliceAfter, memoryBefore}
-use Rattle·reader_runs·specs.specs.Sent.{settingsFor, SentBy, Rooms}
-use Rattle·reader_runs·proofs.proofs.Steps.{sound}
-use Rattle·reader_runs·proofs.proofs.Runs.{run-writes}
+use Rattle.laws.specs.Filled.{Filled}
+use Rattle.laws.specs.Firsts.{firsts}
+use Rattle.laws.proofs.Filling.{fill_none, fill_join, fill_from, fill_end}
+use Rattle.laws.proofs.Firsts.{into_fill}
+use Rattle.settings.specs.declared.settings.Settings.{Settings}
+use Rattle.settings.specs.declared.settings.Checked.TheVariants.{Accepted}
+use Rattle.settings.specs.Settings.{check_of, plan_for, Right}
+use Rattle.symbols.specs.Symbols.{symbols_of}
+use Rattle.symbols.proofs.CountLaws.{symbols_least}
+use Rattle.assembler.specs.Assembled.{byte_of}
+use Rattle.reader_state.specs.declared.state.OpenSettings.{OpenSettings}
+use Rattle.reader_state.specs.State.{open_raw}
+use Rattle.acceptance.specs.Accepted.{bits_before}
+use Rattle.reader_runs.specs.Run.{slice_after, memory_before}
+use Rattle.reader_runs.specs.Sent.{settings_for, SentBy, Rooms}
+use Rattle.reader_runs.proofs.Steps.{sound}
+use Rattle.reader_runs.proofs.Runs.{run_writes}
 
 -- bytes of a frame that are complete before symbol n
-abbrev pub bytesBefore : (s : Settings) (n : ℕ) → ℕ
-bytesBefore s n = bitsBefore s n / 8
+abbrev pub bytes_before : (s : Settings) (n : ℕ) → ℕ
+bytes_before s n = bits_before s n / 8
 
 module _ (s : Settings) where
   -- they grow, and stay within the payload
-  pub bytes-more : (n : ℕ) → bytesBefore s n ≤ bytesBefore s (n + 1)
-  bytes-more n =
-      let e : (n + 1) * planFor s .dbps ≡ n * planFor s .dbps + planFor s .dbps = rw (add-one n, suc-mul) (omega arith) in
+  pub bytes_more : (n : ℕ) → bytes_before s n ≤ bytes_before s (n + 1)
+  bytes_more n =
+      let e : (n + 1) * (plan_for s).dbps ≡ n * (plan_for s).dbps + (plan_for s).dbps = rw (add-one n, suc-mul) (omega arith) in
       omega arith
 
-  pub bytes-within : (n : ℕ) → bytesBefore s n ≤ s .length
-  bytes-within n = omega arith
+  pub bytes_within : (n : ℕ) → bytes_before s n ≤ s.length
+  bytes_within n = omega arith
 
-  pub bytes-none : bytesBefore s 0 ≡ 0
-  bytes-none = omega (arith, zero-mul (planFor s .dbps))
+  pub bytes_none : bytes_before s 0 ≡ 0
+  bytes_none = omega (arith, zero-mul (plan_for s).dbps)
 
   -- after the last symbol all are
-  pub bytes-all : Right s → bytesBefore s (symbolsOf s) ≡ s .length
-  bytes-all right = let e = symbols-least s right .0 in omega (arith, e)
+  pub bytes_all : Right s → bytes_before s (symbols_of s) ≡ s.length
+  bytes_all right = let e = (symbols_least s right).0 in omega (arith, e)
 
 -- ends of a part
-part-ends : (a b : ℕ) → a ≤ b → a + (b - a) ≡ b
-part-ends a b l = omega arith
+part_ends : (a b : ℕ) → a ≤ b → a + (b - a) ≡ b
+part_ends a b l = omega arith
 
-module _ (o : OpenSettings) (ready : checkOf (openRaw o) ≡ Accepted (settingsFor o)) (S : ℕ → List Float) (bytes : ℕ → ℕ)
-    (m : ℕ) (few : m ≤ symbolsOf (settingsFor o)) (rooms : Rooms (settingsFor o) S bytes m) (f : SentBy (settingsFor o) S m) where
+module _ (o : OpenSettings) (ready : check_of (open_raw o) ≡ Accepted (settings_for o)) (S : ℕ → List Float) (bytes : ℕ → ℕ)
+    (m : ℕ) (few : m ≤ symbols_of (settings_for o)) (rooms : Rooms (settings_for o) S bytes m) (f : SentBy (settings_for o) S m) where
   abbrev s : Settings
-  s = settingsFor o
+  s = settings_for o
 
   -- step n fills in the bytes now complete
-  pub slice-filled : (n : ℕ) → n < m → (slice : List ℕ) → settingsFor o .length ≤ length slice
-      → Filled 0 (bytesBefore s n) (λ k. byteOf (f .v) (bytesBefore s n + k)) (bytesBefore s (n + 1) - bytesBefore s n) slice (sliceAfter o S bytes n slice)
-  slice-filled n l slice whole =
-      let a = bytesBefore s n in
-      let b = bytesBefore s (n + 1) in
-      let e : a + (b - a) ≡ b = part-ends a b (bytes-more s n) in
-      subst (λ (d : List ℕ). Filled 0 a (λ k. byteOf (f .v) (a + k)) (b - a) slice d)
-      (ap (λ (k : ℕ). take a slice ++ (firsts (λ k. byteOf (f .v) (a + k)) (b - a) ++ drop k slice)) e ∙ sym (run-writes o ready S bytes m few rooms f n l slice whole))
-      (into-fill 0 a (λ k. byteOf (f .v) (a + k)) (b - a) slice (omega (arith, e, bytes-within s (n + 1), whole)))
+  pub slice_filled : (n : ℕ) → n < m → (slice : List ℕ) → (settings_for o).length ≤ length slice
+      → Filled 0 (bytes_before s n) (λ k. byte_of f.v (bytes_before s n + k)) (bytes_before s (n + 1) - bytes_before s n) slice (slice_after o S bytes n slice)
+  slice_filled n l slice whole =
+      let a = bytes_before s n in
+      let b = bytes_before s (n + 1) in
+      let e : a + (b - a) ≡ b = part_ends a b (bytes_more s n) in
+      subst (λ (d : List ℕ). Filled 0 a (λ k. byte_of f.v (a + k)) (b - a) slice d)
+      (ap (λ (k : ℕ). take a slice ++ (firsts (λ k. byte_of f.v (a + k)) (b - a) ++ drop k slice)) e ∙ sym (run_writes o ready S bytes m few rooms f n l slice whole))
+      (into_fill 0 a (λ k. byte_of f.v (a + k)) (b - a) slice (omega (arith, e, bytes_within s (n + 1), whole)))
 
   -- one slice lent to every step holds the first bytes of the payload
-  pub memory-filled : (slice : List ℕ) → settingsFor o .length ≤ length slice → (n : ℕ) → n ≤ m
-      → Filled 0 0 (byteOf (f .v)) (bytesBefore s n) slice (memoryBefore o S bytes n slice)
-  unfolding memoryBefore
-  memory-filled slice whole zero l = fill-end 0 0 (byteOf (f .v)) (sym (bytes-none s)) (fill-none 0 0 (byteOf (f .v)) slice)
-  memory-filled slice whole (suc n) l =
-      let before = memoryBefore o S bytes n slice in
-      let p = memory-filled slice whole n (omega arith) in
-      let q = slice-filled n l before (omega (arith, p .same, whole)) in
-      fill-end 0 0 (byteOf (f .v)) (part-ends (bytesBefore s n) (bytesBefore s (n + 1)) (bytes-more s n) ∙ ap (bytesBefore s) (add-one n))
-      (fill-join 0 0 (byteOf (f .v)) (bytesBefore s n) (bytesBefore s (n + 1) - bytesBefore s n) slice before _ p
-      (fill-from 0 (λ k. byteOf (f .v) (bytesBefore s n + k)) {a = bytesBefore s n} {b = 0 + bytesBefore s n} (omega arith) q))
+  pub memory_filled : (slice : List ℕ) → (settings_for o).length ≤ length slice → (n : ℕ) → n ≤ m
+      → Filled 0 0 (byte_of f.v) (bytes_before s n) slice (memory_before o S bytes n slice)
+  unfolding memory_before
+  memory_filled slice whole zero l = fill_end 0 0 (byte_of f.v) (sym (bytes_none s)) (fill_none 0 0 (byte_of f.v) slice)
+  memory_filled slice whole (suc n) l =
+      let before = memory_before o S bytes n slice in
+      let p = memory_filled slice whole n (omega arith) in
+      let q = slice_filled n l before (omega (arith, p.same, whole)) in
+      fill_end 0 0 (byte_of f.v) (part_ends (bytes_before s n) (bytes_before s (n + 1)) (bytes_more s n) ∙ ap (bytes_before s) (add-one n))
+      (fill_join 0 0 (byte_of f.v) (bytes_before s n) (bytes_before s (n + 1) - bytes_before s n) slice before _ p
+      (fill_from 0 (λ k. byte_of f.v (bytes_before s n + k)) {a = bytes_before s n} {b = 0 + bytes_before s n} (omega arith) q))
 
 -- after the last symbol it holds the whole payload
-pub memory-whole : (o : OpenSettings) (ready : checkOf (openRaw o) ≡ Accepted (settingsFor o)) (S : ℕ → List Float) (bytes : ℕ → ℕ)
-    → Rooms (settingsFor o) S bytes (symbolsOf (settingsFor o)) → (f : SentBy (settingsFor o) S (symbolsOf (settingsFor o)))
-    → (slice : List ℕ) → settingsFor o .length ≤ length slice
-    → Filled 0 0 (byteOf (f .v)) (settingsFor o .length) slice (memoryBefore o S bytes (symbolsOf (settingsFor o)) slice)
-memory-whole o ready S bytes rooms f slice whole =
-    fill-end 0 0 (byteOf (f .v)) (bytes-all (settingsFor o) (sound o ready))
-    (memory-filled o ready S bytes (symbolsOf (settingsFor o)) (omega arith) rooms f slice whole (symbolsOf (settingsFor o)) (omega arith))
+pub memory_whole : (o : OpenSettings) (ready : check_of (open_raw o) ≡ Accepted (settings_for o)) (S : ℕ → List Float) (bytes : ℕ → ℕ)
+    → Rooms (settings_for o) S bytes (symbols_of (settings_for o)) → (f : SentBy (settings_for o) S (symbols_of (settings_for o)))
+    → (slice : List ℕ) → (settings_for o).length ≤ length slice
+    → Filled 0 0 (byte_of f.v) (settings_for o).length slice (memory_before o S bytes (symbols_of (settings_for o)) slice)
+memory_whole o ready S bytes rooms f slice whole =
+    fill_end 0 0 (byte_of f.v) (bytes_all (settings_for o) (sound o ready))
+    (memory_filled o ready S bytes (symbols_of (settings_for o)) (omega arith) rooms f slice whole (symbols_of (settings_for o)) (omega arith))

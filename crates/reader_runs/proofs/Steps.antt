@@ -1,48 +1,48 @@
 -- The step law: from the state that n symbols of a frame lead to, the step accepts a symbol exactly where some frame that agrees with it before symbol n
 -- sends it, and goes on to that frame's next state. Assumes nothing.
-use mathlib.Core.Path.{_≡_, _∙_, refl, sym, ap, subst}
+use mathlib.Core.Path.{◌≡◌, ◌∙◌, refl, sym, ap, subst}
 use mathlib.Core.Bool.{Bool, true, false, cond, not}
-use mathlib.Core.List.{List, _++_}
-use mathlib.Core.Logic.{_⊎_, inl, inr}
-use Prim.Native.Nat.{ℕ, _+_, _-_, _*_, _/_, _%_, _<_, _≤_}
+use mathlib.Core.List.{List, ◌++◌}
+use mathlib.Core.Logic.{◌⊎◌, inl, inr}
+use Prim.Native.Nat.{ℕ, ◌+◌, ◌-◌, ◌*◌, ◌/◌, ◌%◌, ◌<◌, ◌≤◌}
 use native.Mathlib.Omega.{arith}
-use borrow.Author.Tests.{le-ltb, ne-eqb}
+use borrow.Author.Tests.{le-ltb, ne_eqb}
 use lib.Dec.{eqb, ltb}
 use lib.ListN.{length, take, drop}
 use lib.Ieee.{Float}
-use Rattle·laws.specs.Firsts.{firsts}
-use Rattle·chain.specs.declared.plan.Plan.{Plan}
-use Rattle·chain.specs.Plan.{Fits}
-use Rattle·chain.proofs.DecodeLaws.{history-lt}
-use Rattle·chain.proofs.ScramblerLaws.{state-some}
-use Rattle·settings.specs.declared.settings.Refusal.the-variants.{Room}
-use Rattle·settings.specs.declared.settings.Settings.{Settings}
-use Rattle·settings.specs.declared.settings.Checked.{Checked}
-use Rattle·settings.specs.declared.settings.Checked.the-variants.{Accepted}
-use Rattle·settings.specs.Settings.{checkOf, planFor, Right}
-use Rattle·settings.proofs.SettingsLaws.{right, plan-fits}
-use Rattle·symbols.specs.Symbols.{symbolsOf}
-use Rattle·frame.specs.Points.{floatsOf}
-use Rattle·detector.specs.declared.search.Search.{Search}
-use Rattle·detector.specs.declared.search.Search.the-variants.{AllGiven, At}
-use Rattle·detector.specs.Detected.{searchOf, shownBit}
-use Rattle·assembler.specs.Assembled.{byteOf}
-use Rattle·assembler.proofs.Packing.{packed-small}
-use Rattle·reader_state.specs.declared.state.OpenSettings.{OpenSettings}
-use Rattle·reader_state.specs.declared.state.Reader.{Reader}
-use Rattle·acceptance.specs.declared.accept.StepAnswer.the-variants.{First, Next, Refused as StepRefused}
-use Rattle·acceptance.specs.declared.accept.Stepped.{Stepped}
-use Rattle·reader_state.specs.State.{InRange, openRaw, firstBit}
-use Rattle·acceptance.specs.Accepted.{answered, frameRight, bitsBefore, stepIntoBy}
-use Rattle·reader.specs.Step.{bySearch, noRoom, stepOf, writtenBy, stepInto, stepNumber}
-use Rattle·verdicts.specs.Statements.{InReach}
-use Rattle·verdicts.proofs.StepCases.{heard, decoded, step-open}
-use Rattle·verdicts.proofs.Refusals.{isAt, search-number}
-use Rattle·verdicts.proofs.GivenLaws.{shown-bit}
-use Rattle·reader_runs·specs.specs.Sent.{settingsFor, sentInput, FloatsSent, stateAfter, Agree, Found}
-use Rattle·verdicts.proofs.ShownLaws.{floats-given, floats-show, shown-floats}
-use Rattle·reader_runs·proofs.proofs.Hear.{sent-code, sent-bytes}
-use Rattle·reader_runs·proofs.proofs.Finding.{agree-state, found}
+use Rattle.laws.specs.Firsts.{firsts}
+use Rattle.chain.specs.declared.plan.Plan.{Plan}
+use Rattle.chain.specs.Plan.{Fits}
+use Rattle.chain.proofs.DecodeLaws.{history_lt}
+use Rattle.chain.proofs.ScramblerLaws.{state_some}
+use Rattle.settings.specs.declared.settings.Refusal.TheVariants.{Room}
+use Rattle.settings.specs.declared.settings.Settings.{Settings}
+use Rattle.settings.specs.declared.settings.Checked.{Checked}
+use Rattle.settings.specs.declared.settings.Checked.TheVariants.{Accepted}
+use Rattle.settings.specs.Settings.{check_of, plan_for, Right}
+use Rattle.settings.proofs.SettingsLaws.{right, plan_fits}
+use Rattle.symbols.specs.Symbols.{symbols_of}
+use Rattle.frame.specs.Points.{floats_of}
+use Rattle.detector.specs.declared.search.Search.{Search}
+use Rattle.detector.specs.declared.search.Search.TheVariants.{AllGiven, At}
+use Rattle.detector.specs.Detected.{search_of, shown_bit}
+use Rattle.assembler.specs.Assembled.{byte_of}
+use Rattle.assembler.proofs.Packing.{packed_small}
+use Rattle.reader_state.specs.declared.state.OpenSettings.{OpenSettings}
+use Rattle.reader_state.specs.declared.state.Reader.{Reader}
+use Rattle.acceptance.specs.declared.accept.StepAnswer.TheVariants.{First, Next, Refused as StepRefused}
+use Rattle.acceptance.specs.declared.accept.Stepped.{Stepped}
+use Rattle.reader_state.specs.State.{InRange, open_raw, first_bit}
+use Rattle.acceptance.specs.Accepted.{answered, frame_right, bits_before, step_into_by}
+use Rattle.reader.specs.Step.{by_search, no_room, step_of, written_by, step_into, step_number}
+use Rattle.verdicts.specs.Statements.{InReach}
+use Rattle.verdicts.proofs.StepCases.{heard, decoded, step_open}
+use Rattle.verdicts.proofs.Refusals.{is_at, search_number}
+use Rattle.verdicts.proofs.GivenLaws.{shown_bit_lem}
+use Rattle.reader_runs.specs.Sent.{settings_for, sent_input, FloatsSent, state_after, Agree, Found}
+use Rattle.verdicts.proofs.ShownLaws.{floats_given, floats_show, shown_floats}
+use Rattle.reader_runs.proofs.Hear.{sent_code, sent_bytes}
+use Rattle.reader_runs.proofs.Finding.{agree_state, found}
 
 -- the three tests of a step that accepts
 pub record AllPassed (x : Search) (c f : Bool) : Type 0 where
@@ -50,117 +50,117 @@ pub record AllPassed (x : Search) (c f : Bool) : Type 0 where
   pub code : c ≡ true
   pub frame : f ≡ true
 
-all-passed : (x : Search) (c f : Bool) → _≡_ {A = ℕ} (cond (isAt x) 9 (cond (not c) 10 (cond (not f) 11 0))) 0 → AllPassed x c f
-all-passed (At i k) c f e = absurd (omega (arith, e))
-all-passed AllGiven true true e = record { points = refl; code = refl; frame = refl }
-all-passed AllGiven true false e = absurd (omega (arith, e))
-all-passed AllGiven false f e = absurd (omega (arith, e))
+all_passed : (x : Search) (c f : Bool) → ◌≡◌ {A = ℕ} (cond (is_at x) 9 (cond (not c) 10 (cond (not f) 11 0))) 0 → AllPassed x c f
+all_passed (At i k) c f e = absurd (omega (arith, e))
+all_passed AllGiven true true e = record { points = refl; code = refl; frame = refl }
+all_passed AllGiven true false e = absurd (omega (arith, e))
+all_passed AllGiven false f e = absurd (omega (arith, e))
 
 -- and what the number says of a step that does not
-refused-by : (a c f : Bool) (n : ℕ) → n ≡ cond a 9 (cond (not c) 10 (cond (not f) 11 0)) → (n ≡ 0 → ⊥) → (n ≡ 9) ⊎ ((n ≡ 10) ⊎ (n ≡ 11))
-refused-by true c f n e some = inl e
-refused-by false false f n e some = inr (inl e)
-refused-by false true false n e some = inr (inr e)
-refused-by false true true n e some = absurd (some e)
+refused_by : (a c f : Bool) (n : ℕ) → n ≡ cond a 9 (cond (not c) 10 (cond (not f) 11 0)) → (n ≡ 0 → ⊥) → (n ≡ 9) ⊎ ((n ≡ 10) ⊎ (n ≡ 11))
+refused_by true c f n e some = inl e
+refused_by false false f n e some = inr (inl e)
+refused_by false true false n e some = inr (inr e)
+refused_by false true true n e some = absurd (some e)
 
 -- an accepted symbol's bytes are written
-accepted-into : (first : Bool) (seed : ℕ) (written payload : List ℕ) → stepIntoBy (cond first (First seed) Next) written payload ≡ written
-accepted-into true seed written payload = refl
-accepted-into false seed written payload = refl
+accepted_into : (first : Bool) (seed : ℕ) (written payload : List ℕ) → step_into_by (cond first (First seed) Next) written payload ≡ written
+accepted_into true seed written payload = refl
+accepted_into false seed written payload = refl
 
-cond-small : (b : Bool) (k : ℕ) → k < 64 → cond b k 0 < 64
-cond-small true k h = h
-cond-small false k h = omega arith
+cond_small : (b : Bool) (k : ℕ) → k < 64 → cond b k 0 < 64
+cond_small true k h = h
+cond_small false k h = omega arith
 
-room-both : (s : Settings) (floats bytes : ℕ) → floatsOf s ≤ floats → s .length ≤ bytes → noRoom s floats bytes ≡ false
-room-both s floats bytes h l = simp (le-ltb floats (floatsOf s) h, le-ltb bytes (s .length) l)
+room_both : (s : Settings) (floats bytes : ℕ) → floats_of s ≤ floats → s.length ≤ bytes → no_room s floats bytes ≡ false
+room_both s floats bytes h l = simp (le-ltb floats (floats_of s) h, le-ltb bytes s.length l)
 
-module _ (o : OpenSettings) (ready : checkOf (openRaw o) ≡ Accepted (settingsFor o)) where
-  pub sound : Right (settingsFor o)
-  sound = right (openRaw o) (settingsFor o) ready
+module _ (o : OpenSettings) (ready : check_of (open_raw o) ≡ Accepted (settings_for o)) where
+  pub sound : Right (settings_for o)
+  sound = right (open_raw o) (settings_for o) ready
 
   abbrev s : Settings
-  s = settingsFor o
+  s = settings_for o
 
   abbrev p : Plan
-  p = planFor (settingsFor o)
+  p = plan_for (settings_for o)
 
-  fits : Fits (planFor (settingsFor o))
-  fits = plan-fits (settingsFor o) sound
+  fits : Fits (plan_for (settings_for o))
+  fits = plan_fits (settings_for o) sound
 
-  module _ (v : ℕ → ℕ) (seed : ℕ) (bits : (k : ℕ) → v k < 2) (some : 0 < seed) (small : seed < 128) (n : ℕ) (below : n < symbolsOf (settingsFor o)) where
+  module _ (v : ℕ → ℕ) (seed : ℕ) (bits : (k : ℕ) → v k < 2) (some : 0 < seed) (small : seed < 128) (n : ℕ) (below : n < symbols_of (settings_for o)) where
     abbrev st : Reader
-    st = stateAfter o (settingsFor o) v seed n
+    st = state_after o (settings_for o) v seed n
 
     abbrev x : ℕ → ℕ
-    x = sentInput (settingsFor o) v seed
+    x = sent_input (settings_for o) v seed
 
     -- the frame's state is in range
-    in-range-after : InRange (settingsFor o) st
-    unfolding stateAfter
-    in-range-after = record {
-      going = ne-eqb n (symbolsOf s) (λ e. omega (arith, e, below));
-      below-count = below;
-      first-history = history-lt p x n 0;
-      second-history = cond-small (ltb 1 (p .encoders)) _ (history-lt p x n 1);
-      scrambler-some = λ h. simp (ne-eqb n 0 h) (state-some seed (firstBit s n) some small .0);
-      scrambler-most = λ h. simp (ne-eqb n 0 h) (state-some seed (firstBit s n) some small .1);
-      part-fits = packed-small v (8 * (bitsBefore s n / 8)) (bitsBefore s n % 8) (λ k l. bits _);
+    in_range_after : InRange (settings_for o) st
+    unfolding state_after
+    in_range_after = record {
+      going = ne_eqb n (symbols_of s) (λ e. omega (arith, e, below));
+      below_count = below;
+      first_history = history_lt p x n 0;
+      second_history = cond_small (ltb 1 p.encoders) _ (history_lt p x n 1);
+      scrambler_some = λ h. simp (ne_eqb n 0 h) (state_some seed (first_bit s n) some small).0;
+      scrambler_most = λ h. simp (ne_eqb n 0 h) (state_some seed (first_bit s n) some small).1;
+      part_fits = packed_small v (8 * (bits_before s n / 8)) (bits_before s n % 8) (λ k l. bits _);
     }
 
-    pub in-reach-after : InReach st
-    unfolding stateAfter
-    in-reach-after = record { accepted = ready; in-range = in-range-after }
+    pub in_reach_after : InReach st
+    unfolding state_after
+    in_reach_after = record { accepted = ready; in_range = in_range_after }
 
-    module _ (points : List Float) (room : floatsOf (settingsFor o) ≤ length points) where
-      step-is : (bytes : ℕ) → settingsFor o .length ≤ bytes → stepOf st points bytes ≡ bySearch (searchOf p points (s .format) n) s st points
-      unfolding stateAfter
-      step-is bytes whole =
-          step-open st points bytes in-reach-after
-          ∙ ap (λ (b : Bool). cond b (answered (StepRefused Room) st) (bySearch (searchOf p points (s .format) n) s st points))
-          (room-both s (length points) bytes room whole)
+    module _ (points : List Float) (room : floats_of (settings_for o) ≤ length points) where
+      step_is : (bytes : ℕ) → (settings_for o).length ≤ bytes → step_of st points bytes ≡ by_search (search_of p points s.format n) s st points
+      unfolding state_after
+      step_is bytes whole =
+          step_open st points bytes in_reach_after
+          ∙ ap (λ (b : Bool). cond b (answered (StepRefused Room) st) (by_search (search_of p points s.format n) s st points))
+          (room_both s (length points) bytes room whole)
 
       -- the frame's own symbol
-      pub step-takes : FloatsSent (settingsFor o) v seed n points → (bytes : ℕ) → settingsFor o .length ≤ bytes
-          → stepOf (stateAfter o (settingsFor o) v seed n) points bytes ≡ answered (cond (eqb n 0) (First seed) Next) (stateAfter o (settingsFor o) v seed (n + 1))
-      step-takes sent bytes whole =
-          step-is bytes whole
-          ∙ ap (λ (y : Search). bySearch y s st points) (floats-given p fits x points (s .format) n sent)
-          ∙ sent-code s sound o v seed bits some small n (shownBit p points) (floats-show p fits x points (s .format) n sent)
+      pub step_takes : FloatsSent (settings_for o) v seed n points → (bytes : ℕ) → (settings_for o).length ≤ bytes
+          → step_of (state_after o (settings_for o) v seed n) points bytes ≡ answered (cond (eqb n 0) (First seed) Next) (state_after o (settings_for o) v seed (n + 1))
+      step_takes sent bytes whole =
+          step_is bytes whole
+          ∙ ap (λ (y : Search). by_search y s st points) (floats_given p fits x points s.format n sent)
+          ∙ sent_code s sound o v seed bits some small n (shown_bit p points) (floats_show p fits x points s.format n sent)
 
       -- and its complete bytes
-      pub step-writes : FloatsSent (settingsFor o) v seed n points → (payload : List ℕ) → settingsFor o .length ≤ length payload
-          → stepInto (stateAfter o (settingsFor o) v seed n) points payload
-          ≡ take (bitsBefore s n / 8) payload ++ (firsts (λ k. byteOf v (bitsBefore s n / 8 + k)) (bitsBefore s (n + 1) / 8 - bitsBefore s n / 8) ++ drop (bitsBefore s (n + 1) / 8) payload)
-      unfolding stateAfter
-      step-writes sent payload whole =
-          ap (λ (r : Stepped). stepIntoBy (r .answer) (writtenBy (checkOf (openRaw o)) st points payload) payload) (step-takes sent (length payload) whole)
-          ∙ accepted-into (eqb n 0) seed _ payload
-          ∙ ap (λ (c : Checked). writtenBy c st points payload) ready
-          ∙ sent-bytes s sound o v seed bits some small n (shownBit p points) (floats-show p fits x points (s .format) n sent) payload
+      pub step_writes : FloatsSent (settings_for o) v seed n points → (payload : List ℕ) → (settings_for o).length ≤ length payload
+          → step_into (state_after o (settings_for o) v seed n) points payload
+          ≡ take (bits_before s n / 8) payload ++ (firsts (λ k. byte_of v (bits_before s n / 8 + k)) (bits_before s (n + 1) / 8 - bits_before s n / 8) ++ drop (bits_before s (n + 1) / 8) payload)
+      unfolding state_after
+      step_writes sent payload whole =
+          ap (λ (r : Stepped). step_into_by r.answer (written_by (check_of (open_raw o)) st points payload) payload) (step_takes sent (length payload) whole)
+          ∙ accepted_into (eqb n 0) seed _ payload
+          ∙ ap (λ (c : Checked). written_by c st points payload) ready
+          ∙ sent_bytes s sound o v seed bits some small n (shown_bit p points) (floats_show p fits x points s.format n sent) payload
 
       -- an accepted symbol is that of a frame which agrees before it
-      pub step-gives : (bytes : ℕ) → settingsFor o .length ≤ bytes → stepNumber (stepOf (stateAfter o (settingsFor o) v seed n) points bytes .answer) ≡ 0
-          → (f : Found (settingsFor o) n v seed (shownBit (planFor (settingsFor o)) points)) × FloatsSent (settingsFor o) (f .w) (f .seed′) n points
-      step-gives bytes whole accepted =
-          let t = all-passed (searchOf p points (s .format) n) (decoded s st points) (frameRight s st (heard s st points))
-          (sym (search-number s st points (searchOf p points (s .format) n)) ∙ ap (λ (r : Stepped). stepNumber (r .answer)) (sym (step-is bytes whole)) ∙ accepted) in
-          let f = found s sound o n v seed bits some small (shownBit p points) (λ i r h l. shown-bit p points i r) (t .code) (t .frame) in
-          (f, shown-floats p fits (sentInput s (f .w) (f .seed′)) points (s .format) n (t .points) (f .sent))
+      pub step_gives : (bytes : ℕ) → (settings_for o).length ≤ bytes → step_number (step_of (state_after o (settings_for o) v seed n) points bytes).answer ≡ 0
+          → (f : Found (settings_for o) n v seed (shown_bit (plan_for (settings_for o)) points)) × FloatsSent (settings_for o) f.w f.seed' n points
+      step_gives bytes whole accepted =
+          let t = all_passed (search_of p points s.format n) (decoded s st points) (frame_right s st (heard s st points))
+          (sym (search_number s st points (search_of p points s.format n)) ∙ ap (λ (r : Stepped). step_number r.answer) (sym (step_is bytes whole)) ∙ accepted) in
+          let f = found s sound o n v seed bits some small (shown_bit p points) (λ i r h l. shown_bit_lem p points i r) t.code t.frame in
+          (f, shown_floats p fits (sent_input s f.w f.seed') points s.format n t.points f.sent)
 
       -- a refused one is refused by 9, 10 or 11
-      pub step-refused : (bytes : ℕ) → settingsFor o .length ≤ bytes → let k = stepNumber (stepOf (stateAfter o (settingsFor o) v seed n) points bytes .answer) in
+      pub step_refused : (bytes : ℕ) → (settings_for o).length ≤ bytes → let k = step_number (step_of (state_after o (settings_for o) v seed n) points bytes).answer in
           (k ≡ 0 → ⊥) → (k ≡ 9) ⊎ ((k ≡ 10) ⊎ (k ≡ 11))
-      step-refused bytes whole =
-          refused-by (isAt (searchOf p points (s .format) n)) (decoded s st points) (frameRight s st (heard s st points)) _
-          (ap (λ (r : Stepped). stepNumber (r .answer)) (step-is bytes whole) ∙ search-number s st points (searchOf p points (s .format) n))
+      step_refused bytes whole =
+          refused_by (is_at (search_of p points s.format n)) (decoded s st points) (frame_right s st (heard s st points)) _
+          (ap (λ (r : Stepped). step_number r.answer) (step_is bytes whole) ∙ search_number s st points (search_of p points s.format n))
 
   -- the other way: a symbol of a frame that agrees with the state's is accepted, and the state returned is that frame's
-  pub step-agrees : (v : ℕ → ℕ) (seed : ℕ) (w : ℕ → ℕ) (seed′ : ℕ) → ((k : ℕ) → w k < 2) → 0 < seed′ → seed′ < 128 → (n : ℕ) → n < symbolsOf (settingsFor o)
-      → Agree (settingsFor o) n v seed w seed′ → (points : List Float) → floatsOf (settingsFor o) ≤ length points → FloatsSent (settingsFor o) w seed′ n points
-      → (bytes : ℕ) → settingsFor o .length ≤ bytes
-      → stepOf (stateAfter o (settingsFor o) v seed n) points bytes ≡ answered (cond (eqb n 0) (First seed′) Next) (stateAfter o (settingsFor o) w seed′ (n + 1))
-  step-agrees v seed w seed′ wb ws wm n below agree points room sent bytes whole =
-      subst (λ (t : Reader). stepOf t points bytes ≡ answered (cond (eqb n 0) (First seed′) Next) (stateAfter o s w seed′ (n + 1)))
-      (agree-state s sound o n v seed w seed′ agree)
-      (step-takes w seed′ wb ws wm n below points room sent bytes whole)
+  pub step_agrees : (v : ℕ → ℕ) (seed : ℕ) (w : ℕ → ℕ) (seed' : ℕ) → ((k : ℕ) → w k < 2) → 0 < seed' → seed' < 128 → (n : ℕ) → n < symbols_of (settings_for o)
+      → Agree (settings_for o) n v seed w seed' → (points : List Float) → floats_of (settings_for o) ≤ length points → FloatsSent (settings_for o) w seed' n points
+      → (bytes : ℕ) → (settings_for o).length ≤ bytes
+      → step_of (state_after o (settings_for o) v seed n) points bytes ≡ answered (cond (eqb n 0) (First seed') Next) (state_after o (settings_for o) w seed' (n + 1))
+  step_agrees v seed w seed' wb ws wm n below agree points room sent bytes whole =
+      subst (λ (t : Reader). step_of t points bytes ≡ answered (cond (eqb n 0) (First seed') Next) (state_after o s w seed' (n + 1)))
+      (agree_state s sound o n v seed w seed' agree)
+      (step_takes w seed' wb ws wm n below points room sent bytes whole)

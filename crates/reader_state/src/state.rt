@@ -1,19 +1,14 @@
 // The reader's state, its start, and whether a state is closed.
+ghost use Rattle.std.specs.Prelude.{◌≡◌, ◌%◌, ◌^◌, ◌<◌};
+ghost use Rattle.settings.specs.Settings.{Right};
+ghost use Rattle.reader_state.specs.State.{open_raw, start_of, bad_histories, bad_scrambler, bad_part, closed_of, ended_of};
+
 use assembler::bytes::payload_before;
-use settings::settings::Checked;
-use settings::settings::RawSettings;
-use settings::settings::Refusal;
-use settings::settings::Settings;
-use settings::settings::check;
-use settings::settings::plan_of;
-use settings::settings::refusal_of;
+use settings::settings::{Checked, RawSettings, Refusal, Settings, check, plan_of, refusal_of};
 use symbols::count::symbols_of;
-ghost use mathlib.Core.Path.{_≡_};
-ghost use Prim.Native.Nat.{_%_, _^_, _<_};
-ghost use Rattle·settings.specs.Settings.{Right};
-ghost use Rattle·reader_state·specs.specs.State.{openRaw, startOf, badHistories, badScrambler, badPart, closedOf, endedOf};
 
 // Settings without a seed, as wide as any caller has them.
+#[derive(Drop)]
 pub struct OpenSettings {
     pub width: u64,
     pub mcs: u64,
@@ -26,6 +21,7 @@ pub struct OpenSettings {
 }
 
 // What the reader carries from symbol to symbol. Any number may stand in any field: a step tests them.
+#[derive(Drop)]
 pub struct Reader {
     pub settings: OpenSettings,
     // The next symbol's number.
@@ -40,18 +36,20 @@ pub struct Reader {
     pub part: u8,
 }
 
+#[derive(Drop)]
 pub enum StartAnswer {
     Ready,
     Refused(Refusal),
 }
 
+#[derive(Drop)]
 pub struct Started {
     pub answer: StartAnswer,
     pub state: Reader,
 }
 
 pub fn raw_of(o: OpenSettings) -> RawSettings
-    ensures { λ r. ⌜ r ≡ openRaw o ⌝ }
+    ensures { result ≡ open_raw o }
 {
     RawSettings {
         width: o.width,
@@ -68,7 +66,7 @@ pub fn raw_of(o: OpenSettings) -> RawSettings
 
 // The public start: a state before symbol 0, or a refusal and a closed state.
 pub fn start(o: OpenSettings) -> Started
-    ensures { λ r. ⌜ r ≡ startOf o ⌝ }
+    ensures { result ≡ start_of o }
 {
     let checked = check(raw_of(o));
     let Checked::Accepted(_) = checked else {
@@ -100,15 +98,15 @@ pub fn start(o: OpenSettings) -> Started
 const POWERS: [u8; 8] = [1, 2, 4, 8, 16, 32, 64, 128];
 
 fn power(r: usize) -> u8
-    requires { ⌜ r < 8 ⌝ }
-    ensures { λ p. ⌜ p ≡ 2 ^ r ⌝ }
+    requires { r < 8 }
+    ensures { result ≡ 2 ^ r }
 {
     POWERS[r]
 }
 
 // Histories are six bits, encoder by encoder.
 fn bad_histories(histories: [u8; 2]) -> bool
-    ensures { λ r. ⌜ r ≡ badHistories histories ⌝ }
+    ensures { result ≡ bad_histories histories }
 {
     let mut j: usize = 0;
     while j < 2 {
@@ -122,15 +120,15 @@ fn bad_histories(histories: [u8; 2]) -> bool
 
 // From symbol 1 on a scrambler is 1 to 127.
 fn bad_scrambler(symbol: u64, scrambler: u8) -> bool
-    ensures { λ r. ⌜ r ≡ badScrambler symbol scrambler ⌝ }
+    ensures { result ≡ bad_scrambler symbol scrambler }
 {
     (symbol != 0) & ((scrambler == 0) | (scrambler > 127))
 }
 
 // A part of a byte has as many bits as the payload bits before the symbol leave.
 fn bad_part(s: Settings, symbol: u64, part: u8) -> bool
-    requires { ⌜ Right s × (symbol < 32768) ⌝ }
-    ensures { λ r. ⌜ r ≡ badPart s symbol part ⌝ }
+    requires { Right s × (symbol < 32768) }
+    ensures { result ≡ bad_part s symbol part }
 {
     let plan = plan_of(s);
     let before = payload_before(s.length as usize, symbol as usize * plan.dbps);
@@ -139,8 +137,8 @@ fn bad_part(s: Settings, symbol: u64, part: u8) -> bool
 
 // Whether a state is finished, ended or outside its ranges, its settings being accepted.
 pub fn is_closed(reader: Reader, s: Settings) -> bool
-    requires { ⌜ Right s ⌝ }
-    ensures { λ c. ⌜ c ≡ closedOf s reader ⌝ }
+    requires { Right s }
+    ensures { result ≡ closed_of s reader }
 {
     let past = reader.ended | (reader.symbol >= symbols_of(s));
     if past {
@@ -153,7 +151,7 @@ pub fn is_closed(reader: Reader, s: Settings) -> bool
 
 // The state given, its end marked.
 pub fn ended(reader: Reader) -> Reader
-    ensures { λ e. ⌜ e ≡ endedOf reader ⌝ }
+    ensures { result ≡ ended_of reader }
 {
     let mut e = reader;
     e.ended = true;

@@ -1,15 +1,14 @@
 // The scrambler's outputs from a state on: one period by steps, the rest by copying.
-use crate::register::output_of;
-use crate::register::step;
-ghost use Prim.Native.Nat.{_-_, _%_, _<_, _≤_};
-ghost use lib.ListN.{length, getD};
-ghost use Rattle·laws.specs.Filled.{Filled};
-ghost use Rattle·chain.specs.Scrambler.{scramblerBit};
+ghost use Rattle.std.specs.Prelude.{◌-◌, ◌%◌, ◌<◌, ◌≤◌, length, get_or};
+ghost use Rattle.laws.specs.Filled.{Filled};
+ghost use Rattle.chain.specs.Scrambler.{scrambler_bit};
+
+use crate::register::{output_of, step};
 
 // The first outputs from a state, at most one period of them.
 fn first_outputs(outputs: &mut [u8], state: u8, count: usize)
-    requires { ⌜ (state < 128) × (count ≤ 127) × (count ≤ length (now outputs)) ⌝ }
-    ensures { λ _. ⌜ Filled 0 0 (λ t. scramblerBit state t) count (now (outputs .entry)) (now (outputs .exit)) ⌝ }
+    requires { (state < 128) × (count ≤ 127) × (count ≤ length outputs.old) }
+    ensures { Filled 0 0 (λ t. scrambler_bit state t) count outputs.old outputs.new }
 {
     let mut now_at = state;
     let mut t: usize = 0;
@@ -22,8 +21,8 @@ fn first_outputs(outputs: &mut [u8], state: u8, count: usize)
 
 // The rest, a period later the same.
 fn repeat_outputs(outputs: &mut [u8], count: usize)
-    requires { ⌜ (count ≤ length (now outputs)) × (127 ≤ count) ⌝ }
-    ensures { λ _. ⌜ Filled 0 127 (λ t. getD (now (outputs .entry)) (t % 127) 0) (count - 127) (now (outputs .entry)) (now (outputs .exit)) ⌝ }
+    requires { (count ≤ length outputs.old) × (127 ≤ count) }
+    ensures { Filled 0 127 (λ t. get_or outputs.old (t % 127) 0) (count - 127) outputs.old outputs.new }
 {
     let mut t: usize = 127;
     while t < count {
@@ -34,8 +33,8 @@ fn repeat_outputs(outputs: &mut [u8], count: usize)
 
 // The scrambler's outputs from a state on.
 pub fn scrambler_outputs(outputs: &mut [u8], state: u8, count: usize)
-    requires { ⌜ (state < 128) × (count ≤ length (now outputs)) ⌝ }
-    ensures { λ _. ⌜ Filled 0 0 (λ t. scramblerBit state t) count (now (outputs .entry)) (now (outputs .exit)) ⌝ }
+    requires { (state < 128) × (count ≤ length outputs.old) }
+    ensures { Filled 0 0 (λ t. scrambler_bit state t) count outputs.old outputs.new }
 {
     if count < 127 {
         first_outputs(outputs, state, count);

@@ -1,13 +1,14 @@
 // Settings: the numbers of a call as they come, and what is accepted of them (document 01, 'Settings').
+ghost use Rattle.std.specs.Prelude.{◌≡◌, ltb};
+ghost use Rattle.chain.specs.Plan.{streams_of};
+ghost use Rattle.settings.specs.Settings.{bad_width, bad_mcs, bad_format, bad_length, bad_seed};
+ghost use Rattle.settings.specs.Settings.{number_of, check_of, IsRefused, encoders_of, plan_for, Right};
+
 use chain::plan;
 use chain::plan::Plan;
-ghost use mathlib.Core.Path.{_≡_};
-ghost use lib.Dec.{ltb};
-ghost use Rattle·chain.specs.Plan.{streamsOf};
-ghost use Rattle·settings·specs.specs.Settings.{badWidth, badMcs, badFormat, badLength, badSeed};
-ghost use Rattle·settings·specs.specs.Settings.{numberOf, checkOf, IsRefused, encodersOf, planFor, Right};
 
 // The refusals of document 01's table, in its order.
+#[derive(Drop)]
 pub enum Refusal {
     Width,
     Mcs,
@@ -27,6 +28,7 @@ pub enum Refusal {
 
 // The settings as a caller passes them, as wide as any caller has them: nothing is narrowed before it is tested.
 // A further setting that is tested after the format, such as an edition, has its place after `format`.
+#[derive(Drop)]
 pub struct RawSettings {
     pub width: u64,
     pub mcs: u64,
@@ -40,6 +42,7 @@ pub struct RawSettings {
 }
 
 // Accepted settings.
+#[derive(Drop)]
 pub struct Settings {
     pub width: u64,
     pub mcs: u64,
@@ -52,6 +55,7 @@ pub struct Settings {
     pub short_guard: bool,
 }
 
+#[derive(Drop)]
 pub enum Checked {
     Accepted(Settings),
     Refused(Refusal),
@@ -59,7 +63,7 @@ pub enum Checked {
 
 // Document 01's number of a refusal.
 pub fn number(r: Refusal) -> u64
-    ensures { λ n. ⌜ n ≡ numberOf r ⌝ }
+    ensures { result ≡ number_of r }
 {
     match r {
         Refusal::Width => 1,
@@ -81,38 +85,38 @@ pub fn number(r: Refusal) -> u64
 
 // The tests of refusals 1 to 5, each over all settings, in the table's order.
 fn bad_width(raw: RawSettings) -> bool
-    ensures { λ r. ⌜ r ≡ badWidth raw ⌝ }
+    ensures { result ≡ bad_width raw }
 {
     !((raw.width == 20) | (raw.width == 40))
 }
 
 fn bad_mcs(raw: RawSettings) -> bool
-    ensures { λ r. ⌜ r ≡ badMcs raw ⌝ }
+    ensures { result ≡ bad_mcs raw }
 {
     raw.mcs > 31
 }
 
 fn bad_format(raw: RawSettings) -> bool
-    ensures { λ r. ⌜ r ≡ badFormat raw ⌝ }
+    ensures { result ≡ bad_format raw }
 {
     raw.format > 1
 }
 
 fn bad_length(raw: RawSettings) -> bool
-    ensures { λ r. ⌜ r ≡ badLength raw ⌝ }
+    ensures { result ≡ bad_length raw }
 {
     (raw.length == 0) | (raw.length > 65535)
 }
 
 fn bad_seed(raw: RawSettings) -> bool
-    ensures { λ r. ⌜ r ≡ badSeed raw ⌝ }
+    ensures { result ≡ bad_seed raw }
 {
     (raw.seed == 0) | (raw.seed > 127)
 }
 
 // The settings, or the first refusal of 1 to 5 that applies.
 pub fn check(raw: RawSettings) -> Checked
-    ensures { λ r. ⌜ r ≡ checkOf raw ⌝ }
+    ensures { result ≡ check_of raw }
 {
     if bad_width(raw) {
         return Checked::Refused(Refusal::Width);
@@ -144,8 +148,8 @@ pub fn check(raw: RawSettings) -> Checked
 
 // The refusal in a refused answer: for the `else` of `let Checked::Accepted(..) = checked else`.
 pub fn refusal_of(checked: Checked) -> Refusal
-    requires { ⌜ IsRefused checked ⌝ }
-    ensures { λ r. ⌜ checked ≡ Checked.Refused r ⌝ }
+    requires { IsRefused checked }
+    ensures { checked ≡ Checked.Refused result }
 {
     match checked {
         Checked::Refused(r) => r,
@@ -156,22 +160,22 @@ pub fn refusal_of(checked: Checked) -> Refusal
 
 // Whether an MCS has one stream or two.
 fn few_streams(mcs: u64) -> bool
-    ensures { λ r. ⌜ r ≡ ltb (streamsOf mcs) 3 ⌝ }
+    ensures { result ≡ ltb (streams_of mcs) 3 }
 {
     mcs / 8 + 1 < 3
 }
 
 // Encoders of the consortium's edition: 1 for one and two streams, else 2.
 pub fn encoders(mcs: u64) -> u64
-    ensures { λ r. ⌜ r ≡ encodersOf mcs ⌝ }
+    ensures { result ≡ encoders_of mcs }
 {
     if few_streams(mcs) { 1 } else { 2 }
 }
 
 // The plan of accepted settings.
 pub fn plan_of(s: Settings) -> Plan
-    requires { ⌜ Right s ⌝ }
-    ensures { λ r. ⌜ r ≡ planFor s ⌝ }
+    requires { Right s }
+    ensures { result ≡ plan_for s }
 {
     plan::plan_for(s.width as usize, s.mcs as usize, encoders(s.mcs) as usize)
 }

@@ -1,43 +1,39 @@
 -- HT-SIG as numbers: what the code computes. HtSigLaws of crate `signal` says that it is the field by its bits.
-use mathlib.Core.Bool.{Bool, cond, not, _||_}
-use mathlib.Core.List.{List, [], _∷_}
-use Prim.Native.Nat.{ℕ, _+_, _*_, _/_, _%_, _<_}
-use lib.Dec.{ltb, eqb}
-use lib.ListN.{getD}
-use Rattle·sig_crc.specs.Crc.{crcRun, crcField}
-use Rattle·sig_words·specs.specs.declared.words.SigFields.{SigFields}
+use Rattle.std.specs.Prelude.{Bool, cond, not, ◌||◌, List, [], ◌∷◌, ℕ, ◌+◌, ◌*◌, ◌/◌, ◌%◌, ◌<◌, ltb, eqb, get_or}
+use Rattle.sig_crc.specs.Crc.{crc_run, crc_field}
+use Rattle.sig_words.specs.declared.words.SigFields.{SigFields}
 
 -- a flag as a bit
-abbrev pub oneIf : Bool → ℕ
-oneIf b = cond b 1 0
+abbrev pub one_if : Bool → ℕ
+one_if b = cond b 1 0
 
 -- bits 0 to 33
-unfoldable pub headWord : SigFields → ℕ
-headWord g =
-    g .mcs + 128 * oneIf (eqb (g .width) 40) + 256 * g .length
-    + 16777216 * (oneIf (g .smoothing) + 2 * oneIf (g .«not_sounding») + 4 + 8 * oneIf (g .aggregation) + 128 * oneIf (g .«short_guard»))
+unfoldable pub head_word : SigFields → ℕ
+head_word g =
+    g.mcs + 128 * one_if (eqb g.width 40) + 256 * g.length
+    + 16777216 * (one_if g.smoothing + 2 * one_if g.not_sounding + 4 + 8 * one_if g.aggregation + 128 * one_if g.short_guard)
 
 -- bits 0 to 47
-unfoldable pub sigWord : SigFields → ℕ
-unfolding headWord crcRun crcField
-sigWord g = headWord g + 17179869184 * crcField (crcRun 34 255 (headWord g))
+unfoldable pub sig_word : SigFields → ℕ
+unfolding head_word crc_run crc_field
+sig_word g = head_word g + 17179869184 * crc_field (crc_run 34 255 (head_word g))
 
 -- the low six bytes of a number
-abbrev pub sixOf : ℕ → List ℕ
-sixOf w =
+abbrev pub six_of : ℕ → List ℕ
+six_of w =
     (w % 256) ∷ (w / 256 % 256) ∷ (w / 256 / 256 % 256) ∷ (w / 256 / 256 / 256 % 256) ∷ (w / 256 / 256 / 256 / 256 % 256)
     ∷ (w / 256 / 256 / 256 / 256 / 256 % 256) ∷ []
 
 -- the number that six bytes are
-abbrev pub wordIn : List ℕ → ℕ
-wordIn l = getD l 0 0 + 256 * getD l 1 0 + 65536 * getD l 2 0 + 16777216 * (getD l 3 0 + 256 * getD l 4 0 + 65536 * getD l 5 0)
+abbrev pub word_in : List ℕ → ℕ
+word_in l = get_or l 0 0 + 256 * get_or l 1 0 + 65536 * get_or l 2 0 + 16777216 * (get_or l 3 0 + 256 * get_or l 4 0 + 65536 * get_or l 5 0)
 
-unfoldable pub wordCrcWrong : ℕ → Bool
-unfolding crcRun crcField
-wordCrcWrong w = not (eqb (w / 17179869184 % 256) (crcField (crcRun 34 255 (w % 17179869184))))
+unfoldable pub word_crc_wrong : ℕ → Bool
+unfolding crc_run crc_field
+word_crc_wrong w = not (eqb (w / 17179869184 % 256) (crc_field (crc_run 34 255 (w % 17179869184))))
 
-unfoldable pub wordFormWrong : ℕ → Bool
-wordFormWrong w =
+unfoldable pub word_form_wrong : ℕ → Bool
+word_form_wrong w =
     ltb 31 (w % 128)
     || (eqb (w / 256 % 65536) 0
     || (not (eqb (w / 67108864 % 2) 1)
@@ -46,17 +42,17 @@ wordFormWrong w =
     || (not (eqb (w / 4294967296 % 4) 0)
     || not (eqb (w / 4398046511104 % 64) 0))))))
 
-unfoldable pub fieldsInWord : ℕ → SigFields
-fieldsInWord w = record {
+unfoldable pub fields_in_word : ℕ → SigFields
+fields_in_word w = record {
   width = cond (eqb (w / 128 % 2) 1) 40 20;
   mcs = w % 128;
   length = w / 256 % 65536;
   smoothing = eqb (w / 16777216 % 2) 1;
-  «not_sounding» = eqb (w / 33554432 % 2) 1;
+  not_sounding = eqb (w / 33554432 % 2) 1;
   aggregation = eqb (w / 134217728 % 2) 1;
-  «short_guard» = eqb (w / 2147483648 % 2) 1;
+  short_guard = eqb (w / 2147483648 % 2) 1;
 }
 
 pub record SigFits (g : SigFields) : Type 0 where
-  pub mcs : g .mcs < 128
-  pub length : g .length < 65536
+  pub mcs : g.mcs < 128
+  pub length : g.length < 65536

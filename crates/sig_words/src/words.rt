@@ -1,13 +1,11 @@
 // The HT-SIG field as a number: its fields, its CRC, its six bytes. Crate `signal` says that this is the field by its bits.
-use sig_crc::crc::crc;
-use sig_crc::crc::crc_field;
-ghost use mathlib.Core.Path.{_≡_};
-ghost use mathlib.Core.List.{_++_};
-ghost use Prim.Native.Nat.{_<_, _≤_, _%_};
-ghost use lib.ListN.{length, drop};
-ghost use Rattle·sig_words·specs.specs.Words.{oneIf, SigFits, headWord, sigWord, sixOf, wordIn, wordCrcWrong, wordFormWrong, fieldsInWord};
+ghost use Rattle.std.specs.Prelude.{◌≡◌, ◌++◌, ◌<◌, ◌≤◌, ◌%◌, length, drop};
+ghost use Rattle.sig_words.specs.Words.{one_if, SigFits, head_word, sig_word, six_of, word_in, word_crc_wrong, word_form_wrong, fields_in_word};
+
+use sig_crc::crc::{crc, crc_field};
 
 // What the field says of the settings.
+#[derive(Drop)]
 pub struct SigFields {
     pub width: u64,
     pub mcs: u64,
@@ -20,15 +18,15 @@ pub struct SigFields {
 
 // A flag as a bit.
 pub fn one(b: bool) -> u64
-    ensures { λ r. ⌜ (r ≡ oneIf b) × (r ≤ 1) ⌝ }
+    ensures { (result ≡ one_if b) × (result ≤ 1) }
 {
     if b { 1 } else { 0 }
 }
 
 // Bits 0 to 33.
 fn head_word(g: SigFields) -> u64
-    requires { ⌜ SigFits g ⌝ }
-    ensures { λ r. ⌜ (r ≡ headWord g) × (r < 17179869184) ⌝ }
+    requires { SigFits g }
+    ensures { (result ≡ head_word g) × (result < 17179869184) }
 {
     let wide = g.width == 40;
     let flags = one(g.smoothing)
@@ -41,23 +39,23 @@ fn head_word(g: SigFields) -> u64
 
 // All 48 bits.
 pub fn sig_word(g: SigFields) -> u64
-    requires { ⌜ SigFits g ⌝ }
-    ensures { λ r. ⌜ (r ≡ sigWord g) × (r < 4398046511104) ⌝ }
+    requires { SigFits g }
+    ensures { (result ≡ sig_word g) × (result < 4398046511104) }
 {
     let head = head_word(g);
     head + 17179869184 * crc_field(crc(head))
 }
 
 fn low_byte(x: u64) -> u8
-    ensures { λ r. ⌜ r ≡ x % 256 ⌝ }
+    ensures { result ≡ x % 256 }
 {
     (x % 256) as u8
 }
 
 // Writes the low six bytes of a number, low byte first.
 pub fn put_six(w: u64, out: &mut [u8])
-    requires { ⌜ 6 ≤ length (now out) ⌝ }
-    ensures { λ _. ⌜ now (out .exit) ≡ sixOf w ++ drop 6 (now (out .entry)) ⌝ }
+    requires { 6 ≤ length out.old }
+    ensures { out.new ≡ six_of w ++ drop 6 out.old }
 {
     let w1 = w / 256;
     let w2 = w1 / 256;
@@ -73,15 +71,15 @@ pub fn put_six(w: u64, out: &mut [u8])
 }
 
 fn byte_value(b: u8) -> u64
-    ensures { λ r. ⌜ (r ≡ b) × (r < 256) ⌝ }
+    ensures { (result ≡ b) × (result < 256) }
 {
     b as u64
 }
 
 // The number that six bytes are, low byte first.
 pub fn word_in(sig: &[u8]) -> u64
-    requires { ⌜ length (now sig) ≡ 6 ⌝ }
-    ensures { λ r. ⌜ r ≡ wordIn (now (sig .entry)) ⌝ }
+    requires { length sig.now ≡ 6 }
+    ensures { result ≡ word_in sig.now }
 {
     let low = byte_value(sig[0]) + 256 * byte_value(sig[1]) + 65536 * byte_value(sig[2]);
     let high = byte_value(sig[3]) + 256 * byte_value(sig[4]) + 65536 * byte_value(sig[5]);
@@ -89,7 +87,7 @@ pub fn word_in(sig: &[u8]) -> u64
 }
 
 pub fn crc_wrong(w: u64) -> bool
-    ensures { λ r. ⌜ r ≡ wordCrcWrong w ⌝ }
+    ensures { result ≡ word_crc_wrong w }
 {
     let sent = w / 17179869184 % 256;
     sent != crc_field(crc(w % 17179869184))
@@ -97,7 +95,7 @@ pub fn crc_wrong(w: u64) -> bool
 
 // MCS, length, reserved bit, STBC, coding, extension streams, tail.
 pub fn form_wrong(w: u64) -> bool
-    ensures { λ r. ⌜ r ≡ wordFormWrong w ⌝ }
+    ensures { result ≡ word_form_wrong w }
 {
     (w % 128 > 31)
         | ((w / 256 % 65536 == 0)
@@ -108,13 +106,13 @@ pub fn form_wrong(w: u64) -> bool
 }
 
 fn width_of(bit: u64) -> u64
-    ensures { λ r. ⌜ ((bit ≡ 1 → r ≡ 40) × ((bit ≡ 1 → ⊥) → r ≡ 20)) ⌝ }
+    ensures { (bit ≡ 1 → result ≡ 40) × ((bit ≡ 1 → ⊥) → result ≡ 20) }
 {
     if bit == 1 { 40 } else { 20 }
 }
 
 pub fn fields_in(w: u64) -> SigFields
-    ensures { λ r. ⌜ r ≡ fieldsInWord w ⌝ }
+    ensures { result ≡ fields_in_word w }
 {
     SigFields {
         width: width_of(w / 128 % 2),

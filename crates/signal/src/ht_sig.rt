@@ -1,34 +1,25 @@
 // The HT-SIG field: 48 bits in six bytes (document 01, 'Signal bits').
-use settings::settings::Checked;
-use settings::settings::RawSettings;
-use settings::settings::Refusal;
-use settings::settings::Settings;
-use settings::settings::check;
-use settings::settings::refusal_of;
-use sig_words::words::SigFields;
-use sig_words::words::crc_wrong;
-use sig_words::words::fields_in;
-use sig_words::words::form_wrong;
-use sig_words::words::put_six;
-use sig_words::words::sig_word;
-use sig_words::words::word_in;
-ghost use mathlib.Core.Path.{_≡_};
-ghost use lib.ListN.{length};
-ghost use Rattle·settings.specs.Settings.{checkOf};
-ghost use Rattle·signal·specs.specs.HtSig.{fieldsOf, writtenOf, writtenInto, readOf};
+ghost use Rattle.std.specs.Prelude.{◌≡◌, length};
+ghost use Rattle.settings.specs.Settings.{check_of};
+ghost use Rattle.signal.specs.HtSig.{fields_of, written_of, written_into, read_of};
 
+use settings::settings::{Checked, RawSettings, Refusal, Settings, check, refusal_of};
+use sig_words::words::{SigFields, crc_wrong, fields_in, form_wrong, put_six, sig_word, word_in};
+
+#[derive(Drop)]
 pub enum Written {
     Done,
     Refused(Refusal),
 }
 
+#[derive(Drop)]
 pub enum SigRead {
     Fields(SigFields),
     Refused(Refusal),
 }
 
 fn fields_of(s: Settings) -> SigFields
-    ensures { λ r. ⌜ r ≡ fieldsOf s ⌝ }
+    ensures { result ≡ fields_of s }
 {
     SigFields {
         width: s.width,
@@ -43,7 +34,7 @@ fn fields_of(s: Settings) -> SigFields
 
 // The public signal write: six bytes and the rest of the slice as it was, or a refusal and nothing written.
 pub fn write(raw: RawSettings, out: &mut [u8]) -> Written
-    ensures { λ r. ⌜ (r ≡ writtenOf (checkOf raw) (length (now (out .entry)))) × (now (out .exit) ≡ writtenInto (checkOf raw) (now (out .entry))) ⌝ }
+    ensures { (result ≡ written_of (check_of raw) (length out.old)) × (out.new ≡ written_into (check_of raw) out.old) }
 {
     let checked = check(raw);
     let Checked::Accepted(s) = checked else {
@@ -58,7 +49,7 @@ pub fn write(raw: RawSettings, out: &mut [u8]) -> Written
 
 // The public signal read.
 pub fn read(sig: &[u8]) -> SigRead
-    ensures { λ r. ⌜ r ≡ readOf (now (sig .entry)) ⌝ }
+    ensures { result ≡ read_of sig.now }
 {
     if sig.len() != 6 {
         return SigRead::Refused(Refusal::Source);

@@ -1,170 +1,170 @@
 -- The interleaver's inverse of stream 0 with its divisors written out, and the parser of one stream bit: what the functions of the table compute.
 -- Assumes nothing.
-use mathlib.Core.Path.{_≡_, _∙_, sym, subst}
+use mathlib.Core.Path.{◌≡◌, ◌∙◌, sym, subst}
 use mathlib.Core.List.{List}
-use Prim.Native.Nat.{ℕ, _+_, _*_, _/_, _%_, _<_, _≤_}
+use Prim.Native.Nat.{ℕ, ◌+◌, ◌*◌, ◌/◌, ◌%◌, ◌<◌, ◌≤◌}
 use native.Mathlib.Nat.{mul-le-mul}
 use native.Mathlib.Omega.{arith}
 use lib.Dec.{T}
-use lib.ListN.{getD}
-use Rattle·laws.specs.Test.{among}
-use Rattle·laws.specs.Claim.{Claim, _is_, _under_, _and_, upTo, each, unless, Holds, sound}
-use Rattle·laws.specs.Filled.{Filled}
-use Rattle·laws.proofs.Filling.{fill-at}
-use Rattle·chain.specs.Plan.{widths, bitCounts, Fits, axisCounts}
-use Rattle·chain.specs.declared.plan.Plan.{Plan}
-use Rattle·chain.specs.Parser.{axisBits}
-use Rattle·chain.specs.Interleaver.{columns, rows, rotation, blockOf, shiftOf, source, unrotated, unalternated, byRows, sourceForm}
-use Rattle·chain.proofs.Counts.{width-most, bits-most, streams-most, encoders-most, axis-some, axis-most}
-use Rattle·chain.proofs.InterleaverLaws.{source-is, interleaves, plan-block}
-use Rattle·sources·specs.specs.Sources.{codedSlot, labelSource}
+use lib.ListN.{get_or}
+use Rattle.laws.specs.Test.{among}
+use Rattle.laws.specs.Claim.{Claim, ◌is◌, ◌under◌, ◌and◌, up_to, each, unless, Holds, sound}
+use Rattle.laws.specs.Filled.{Filled}
+use Rattle.laws.proofs.Filling.{fill_at}
+use Rattle.chain.specs.Plan.{widths, bit_counts, Fits, axis_counts}
+use Rattle.chain.specs.declared.plan.Plan.{Plan}
+use Rattle.chain.specs.Parser.{axis_bits}
+use Rattle.chain.specs.Interleaver.{columns, rows, rotation, block_of, shift_of, source, unrotated, unalternated, by_rows, source_form}
+use Rattle.chain.proofs.Counts.{width_most, bits_most, streams_most, encoders_most, axis_some, axis_most}
+use Rattle.chain.proofs.InterleaverLaws.{source_is, interleaves, plan_block}
+use Rattle.sources.specs.Sources.{coded_slot, label_source}
 
 -- bit r at width w, B bits a carrier: f is the closed inverse of stream 0
-abbrev formClaim : (w b : ℕ) (f : ℕ → ℕ) → Claim
-formClaim w b f = upTo (blockOf w b) λ r. f r is sourceForm w b 0 r
+abbrev form_claim : (w b : ℕ) (f : ℕ → ℕ) → Claim
+form_claim w b f = up_to (block_of w b) λ r. f r is source_form w b 0 r
 
-abbrev form-20-1 : ℕ → ℕ
-form-20-1 r = 13 * (r % 4) + r / 4
+abbrev form_20_1 : ℕ → ℕ
+form_20_1 r = 13 * (r % 4) + r / 4
 
-abbrev form-20-2 : ℕ → ℕ
-form-20-2 r = 13 * (r % 8) + r / 8
+abbrev form_20_2 : ℕ → ℕ
+form_20_2 r = 13 * (r % 8) + r / 8
 
-abbrev form-20-4 : ℕ → ℕ
-form-20-4 r = 13 * (r % 16 / 2 * 2 + (r + r / 16) % 2) + r / 16
+abbrev form_20_4 : ℕ → ℕ
+form_20_4 r = 13 * (r % 16 / 2 * 2 + (r + r / 16) % 2) + r / 16
 
-abbrev form-20-6 : ℕ → ℕ
-form-20-6 r = 13 * (r % 24 / 3 * 3 + (r + r / 24) % 3) + r / 24
+abbrev form_20_6 : ℕ → ℕ
+form_20_6 r = 13 * (r % 24 / 3 * 3 + (r + r / 24) % 3) + r / 24
 
-abbrev forms-20 : Claim
-forms-20 = formClaim 20 1 form-20-1 and formClaim 20 2 form-20-2 and formClaim 20 4 form-20-4 and formClaim 20 6 form-20-6
+abbrev forms_20 : Claim
+forms_20 = form_claim 20 1 form_20_1 and form_claim 20 2 form_20_2 and form_claim 20 4 form_20_4 and form_claim 20 6 form_20_6
 
-at-20 : Holds forms-20
-unfolding sourceForm unrotated unalternated byRows columns rows rotation shiftOf blockOf axisBits
-at-20 = sound forms-20 tt
+at_20 : Holds forms_20
+unfolding source_form unrotated unalternated by_rows columns rows rotation shift_of block_of axis_bits
+at_20 = sound forms_20 tt
 
-abbrev form-40-1 : ℕ → ℕ
-form-40-1 r = 18 * (r % 6) + r / 6
+abbrev form_40_1 : ℕ → ℕ
+form_40_1 r = 18 * (r % 6) + r / 6
 
-abbrev form-40-2 : ℕ → ℕ
-form-40-2 r = 18 * (r % 12) + r / 12
+abbrev form_40_2 : ℕ → ℕ
+form_40_2 r = 18 * (r % 12) + r / 12
 
-abbrev form-40-4 : ℕ → ℕ
-form-40-4 r = 18 * (r % 24 / 2 * 2 + (r + r / 24) % 2) + r / 24
+abbrev form_40_4 : ℕ → ℕ
+form_40_4 r = 18 * (r % 24 / 2 * 2 + (r + r / 24) % 2) + r / 24
 
-abbrev form-40-6 : ℕ → ℕ
-form-40-6 r = 18 * (r % 36 / 3 * 3 + (r + r / 36) % 3) + r / 36
+abbrev form_40_6 : ℕ → ℕ
+form_40_6 r = 18 * (r % 36 / 3 * 3 + (r + r / 36) % 3) + r / 36
 
-abbrev forms-40 : Claim
-forms-40 = formClaim 40 1 form-40-1 and formClaim 40 2 form-40-2 and formClaim 40 4 form-40-4 and formClaim 40 6 form-40-6
+abbrev forms_40 : Claim
+forms_40 = form_claim 40 1 form_40_1 and form_claim 40 2 form_40_2 and form_claim 40 4 form_40_4 and form_claim 40 6 form_40_6
 
-at-40 : Holds forms-40
-unfolding sourceForm unrotated unalternated byRows columns rows rotation shiftOf blockOf axisBits
-at-40 = sound forms-40 tt
+at_40 : Holds forms_40
+unfolding source_form unrotated unalternated by_rows columns rows rotation shift_of block_of axis_bits
+at_40 = sound forms_40 tt
 
 -- a closed inverse at a width and a B is the bit that goes to place r
-module _ (w b : ℕ) (hw : T (among widths w)) (hb : T (among bitCounts b)) (f : ℕ → ℕ) (h : Holds (formClaim w b f)) where
-  as-source : (r : ℕ) → r < blockOf w b → f r ≡ source w b 0 r
-  as-source r l = h r l ∙ sym (source-is w b 0 hw hb (omega arith) r l)
+module _ (w b : ℕ) (hw : T (among widths w)) (hb : T (among bit_counts b)) (f : ℕ → ℕ) (h : Holds (form_claim w b f)) where
+  as_source : (r : ℕ) → r < block_of w b → f r ≡ source w b 0 r
+  as_source r l = h r l ∙ sym (source_is w b 0 hw hb (omega arith) r l)
 
-  form-is : (bits r : ℕ) → bits ≡ b → r < blockOf w bits → f r ≡ source w bits 0 r
-  form-is bits r e = subst (λ (k : ℕ). r < blockOf w k → f r ≡ source w k 0 r) (sym e) (as-source r)
+  form_is : (bits r : ℕ) → bits ≡ b → r < block_of w bits → f r ≡ source w bits 0 r
+  form_is bits r e = subst (λ (k : ℕ). r < block_of w k → f r ≡ source w k 0 r) (sym e) (as_source r)
 
 -- the bit of stream 0 at 20 MHz, BPSK
-pub source-20-1 : (bits r : ℕ) → bits ≡ 1 → r < blockOf 20 bits → form-20-1 r ≡ source 20 bits 0 r
-source-20-1 = form-is 20 1 tt tt form-20-1 (at-20 .0)
+pub source_20_1 : (bits r : ℕ) → bits ≡ 1 → r < block_of 20 bits → form_20_1 r ≡ source 20 bits 0 r
+source_20_1 = form_is 20 1 tt tt form_20_1 at_20.0
 
 -- at 20 MHz, QPSK
-pub source-20-2 : (bits r : ℕ) → bits ≡ 2 → r < blockOf 20 bits → form-20-2 r ≡ source 20 bits 0 r
-source-20-2 = form-is 20 2 tt tt form-20-2 (at-20 .1 .0)
+pub source_20_2 : (bits r : ℕ) → bits ≡ 2 → r < block_of 20 bits → form_20_2 r ≡ source 20 bits 0 r
+source_20_2 = form_is 20 2 tt tt form_20_2 at_20.1.0
 
 -- at 20 MHz, 16-QAM
-pub source-20-4 : (bits r : ℕ) → bits ≡ 4 → r < blockOf 20 bits → form-20-4 r ≡ source 20 bits 0 r
-source-20-4 = form-is 20 4 tt tt form-20-4 (at-20 .1 .1 .0)
+pub source_20_4 : (bits r : ℕ) → bits ≡ 4 → r < block_of 20 bits → form_20_4 r ≡ source 20 bits 0 r
+source_20_4 = form_is 20 4 tt tt form_20_4 at_20.1.1.0
 
 -- at 20 MHz, 64-QAM
-pub source-20-6 : (bits r : ℕ) → bits ≡ 6 → r < blockOf 20 bits → form-20-6 r ≡ source 20 bits 0 r
-source-20-6 = form-is 20 6 tt tt form-20-6 (at-20 .1 .1 .1)
+pub source_20_6 : (bits r : ℕ) → bits ≡ 6 → r < block_of 20 bits → form_20_6 r ≡ source 20 bits 0 r
+source_20_6 = form_is 20 6 tt tt form_20_6 at_20.1.1.1
 
 -- the bit of stream 0 at 40 MHz, BPSK
-pub source-40-1 : (bits r : ℕ) → bits ≡ 1 → r < blockOf 40 bits → form-40-1 r ≡ source 40 bits 0 r
-source-40-1 = form-is 40 1 tt tt form-40-1 (at-40 .0)
+pub source_40_1 : (bits r : ℕ) → bits ≡ 1 → r < block_of 40 bits → form_40_1 r ≡ source 40 bits 0 r
+source_40_1 = form_is 40 1 tt tt form_40_1 at_40.0
 
 -- at 40 MHz, QPSK
-pub source-40-2 : (bits r : ℕ) → bits ≡ 2 → r < blockOf 40 bits → form-40-2 r ≡ source 40 bits 0 r
-source-40-2 = form-is 40 2 tt tt form-40-2 (at-40 .1 .0)
+pub source_40_2 : (bits r : ℕ) → bits ≡ 2 → r < block_of 40 bits → form_40_2 r ≡ source 40 bits 0 r
+source_40_2 = form_is 40 2 tt tt form_40_2 at_40.1.0
 
 -- at 40 MHz, 16-QAM
-pub source-40-4 : (bits r : ℕ) → bits ≡ 4 → r < blockOf 40 bits → form-40-4 r ≡ source 40 bits 0 r
-source-40-4 = form-is 40 4 tt tt form-40-4 (at-40 .1 .1 .0)
+pub source_40_4 : (bits r : ℕ) → bits ≡ 4 → r < block_of 40 bits → form_40_4 r ≡ source 40 bits 0 r
+source_40_4 = form_is 40 4 tt tt form_40_4 at_40.1.1.0
 
 -- at 40 MHz, 64-QAM
-pub source-40-6 : (bits r : ℕ) → bits ≡ 6 → r < blockOf 40 bits → form-40-6 r ≡ source 40 bits 0 r
-source-40-6 = form-is 40 6 tt tt form-40-6 (at-40 .1 .1 .1)
+pub source_40_6 : (bits r : ℕ) → bits ≡ 6 → r < block_of 40 bits → form_40_6 r ≡ source 40 bits 0 r
+source_40_6 = form_is 40 6 tt tt form_40_6 at_40.1.1.1
 
-abbrev smallClaim : Claim
-smallClaim = each widths λ w. each bitCounts λ b. blockOf w b under 649
+abbrev small_claim : Claim
+small_claim = each widths λ w. each bit_counts λ b. block_of w b under 649
 
-smalls : Holds smallClaim
-unfolding blockOf
-smalls = sound smallClaim tt
+smalls : Holds small_claim
+unfolding block_of
+smalls = sound small_claim tt
 
 -- a block has at most 648 bits
-pub block-most : (w b : ℕ) → T (among widths w) → T (among bitCounts b) → blockOf w b ≤ 648
-block-most w b hw hb = omega (arith, smalls w hw b hb)
+pub block_most : (w b : ℕ) → T (among widths w) → T (among bit_counts b) → block_of w b ≤ 648
+block_most w b hw hb = omega (arith, smalls w hw b hb)
 
-abbrev threeClaim : Claim
-threeClaim = each axisCounts λ s. unless s 1 (unless s 2 (s is 3))
+abbrev three_claim : Claim
+three_claim = each axis_counts λ s. unless s 1 (unless s 2 (s is 3))
 
 -- the last number of bits an axis has
-pub three-left : Holds threeClaim
-three-left = sound threeClaim tt
+pub three_left : Holds three_claim
+three_left = sound three_claim tt
 
 -- products by a number of streams are small
-pub streams-times : (streams k most : ℕ) → streams ≤ 4 → k ≤ most → streams * k ≤ 4 * most
-streams-times streams k most few h = mul-le-mul few h
+pub streams_times : (streams k most : ℕ) → streams ≤ 4 → k ≤ most → streams * k ≤ 4 * most
+streams_times streams k most few h = mul-le-mul few h
 
 -- how large the numbers of a plan are
 pub record Small (p : Plan) : Type 0 where
-  pub width : p .width ≤ 40
-  pub bits : p .bits ≤ 6
-  pub streams : p .streams ≤ 4
-  pub encoders : p .encoders ≤ 2
-  pub axis-least : 1 ≤ axisBits (p .bits)
-  pub axis-most : axisBits (p .bits) ≤ 3
-  pub block : p .block ≤ 648
+  pub width : p.width ≤ 40
+  pub bits : p.bits ≤ 6
+  pub streams : p.streams ≤ 4
+  pub encoders : p.encoders ≤ 2
+  pub axis_least : 1 ≤ axis_bits p.bits
+  pub axis_most : axis_bits p.bits ≤ 3
+  pub block : p.block ≤ 648
 
 module _ (p : Plan) (f : Fits p) where
   -- every plan's numbers are small
   pub small : Small p
   small =
       record {
-        width = width-most (p .width) (f .width);
-        bits = bits-most (p .bits) (f .bits);
-        streams = streams-most (p .streams) (f .streams);
-        encoders = encoders-most (p .encoders) (f .encoders);
-        axis-least = axis-some (p .bits) (f .bits);
-        axis-most = axis-most (p .bits) (f .bits);
-        block = omega (arith, plan-block p f, block-most (p .width) (p .bits) (f .width) (f .bits));
+        width = width_most p.width f.width;
+        bits = bits_most p.bits f.bits;
+        streams = streams_most p.streams f.streams;
+        encoders = encoders_most p.encoders f.encoders;
+        axis_least = axis_some p.bits f.bits;
+        axis_most = axis_most p.bits f.bits;
+        block = omega (arith, plan_block p f, block_most p.width p.bits f.width f.bits);
       }
 
   -- the bits of stream 0 are those of its block
-  pub source-small : (r : ℕ) → r < p .block → source (p .width) (p .bits) 0 r < 648
-  source-small r h =
-      let b = plan-block p f in
-      let l : r < blockOf (p .width) (p .bits) = omega arith in
-      omega (arith, interleaves (p .width) (p .bits) 0 (f .width) (f .bits) (omega arith) .source-lt r l, small .block)
+  pub source_small : (r : ℕ) → r < p.block → source p.width p.bits 0 r < 648
+  source_small r h =
+      let b = plan_block p f in
+      let l : r < block_of p.width p.bits = omega arith in
+      omega (arith, (interleaves p.width p.bits 0 f.width f.bits (omega arith)).source_lt r l, small.block)
 
 -- the sources of stream 0, parsed in place, are the table
-pub parsed-table : (p : Plan) (s : ℕ) (d₀ d₁ d₂ : List ℕ) → s ≡ axisBits (p .bits)
-    → Filled 0 0 (λ r. source (p .width) (p .bits) 0 r) (p .block) d₀ d₁
-    → Filled 0 0 (λ r. codedSlot s (p .streams) (p .encoders) 0 (getD d₁ r 0)) (p .block) d₁ d₂
-    → Filled 0 0 (λ r. labelSource p r) (p .block) d₀ d₂
-parsed-table p s d₀ d₁ d₂ e one two = record {
-  same = two .same ∙ one .same;
+pub parsed_table : (p : Plan) (s : ℕ) (d₀ d₁ d₂ : List ℕ) → s ≡ axis_bits p.bits
+    → Filled 0 0 (λ r. source p.width p.bits 0 r) p.block d₀ d₁
+    → Filled 0 0 (λ r. coded_slot s p.streams p.encoders 0 (get_or d₁ r 0)) p.block d₁ d₂
+    → Filled 0 0 (λ r. label_source p r) p.block d₀ d₂
+parsed_table p s d₀ d₁ d₂ e one two = record {
+  same = two.same ∙ one.same;
   done = λ r l.
-      let at : getD d₁ r 0 ≡ source (p .width) (p .bits) 0 r = fill-at 0 (λ k. source (p .width) (p .bits) 0 k) one r l in
-      let there : codedSlot s (p .streams) (p .encoders) 0 (getD d₁ r 0) ≡ labelSource p r = rw (e, at) in
-      two .done r l ∙ there;
-  before = λ i l. two .before i l ∙ one .before i l;
-  after = λ i l. two .after i l ∙ one .after i l;
+      let at : get_or d₁ r 0 ≡ source p.width p.bits 0 r = fill_at 0 (λ k. source p.width p.bits 0 k) one r l in
+      let there : coded_slot s p.streams p.encoders 0 (get_or d₁ r 0) ≡ label_source p r = rw (e, at) in
+      two.done r l ∙ there;
+  before = λ i l. two.before i l ∙ one.before i l;
+  after = λ i l. two.after i l ∙ one.after i l;
 }

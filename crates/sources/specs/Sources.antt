@@ -1,48 +1,45 @@
 -- Where each label bit stands among a symbol's coded bits, as the code tables it.
-use mathlib.Core.List.{List}
-use Prim.Native.Nat.{ℕ, _+_, _*_, _<_, _≤_}
-use lib.Dec.{T}
-use lib.ListN.{length, getD}
-use Rattle·laws.specs.Test.{among}
-use Rattle·chain.specs.Plan.{widths, bitCounts, encoderCounts, Fits, axisCounts, mostBlock}
-use Rattle·chain.specs.declared.plan.Plan.{Plan}
-use Rattle·chain.specs.Parser.{axisBits, encoderOf, indexOf}
-use Rattle·chain.specs.Interleaver.{blockOf, source}
+use Rattle.std.specs.Prelude.{List, ℕ, ◌+◌, ◌*◌, ◌<◌, ◌≤◌, T, length, get_or}
+use Rattle.laws.specs.Test.{among}
+use Rattle.chain.specs.Plan.{widths, bit_counts, encoder_counts, Fits, axis_counts, most_block}
+use Rattle.chain.specs.declared.plan.Plan.{Plan}
+use Rattle.chain.specs.Parser.{axis_bits, encoder_of, index_of}
+use Rattle.chain.specs.Interleaver.{block_of, source}
 
 -- bit k of stream i among the coded bits, those of encoder 1 from 1296 on
-abbrev pub codedSlot : (s streams encoders i k : ℕ) → ℕ
-codedSlot s streams encoders i k = 1296 * encoderOf s encoders k + indexOf s streams encoders i k
+abbrev pub coded_slot : (s streams encoders i k : ℕ) → ℕ
+coded_slot s streams encoders i k = 1296 * encoder_of s encoders k + index_of s streams encoders i k
 
 -- label bit r of stream 0 among the coded bits
-abbrev pub labelSource : (p : Plan) (r : ℕ) → ℕ
-labelSource p r = codedSlot (axisBits (p .bits)) (p .streams) (p .encoders) 0 (source (p .width) (p .bits) 0 r)
+abbrev pub label_source : (p : Plan) (r : ℕ) → ℕ
+label_source p r = coded_slot (axis_bits p.bits) p.streams p.encoders 0 (source p.width p.bits 0 r)
 
 pub record SourceAsked (width bits r : ℕ) : Type 0 where
-  pub known-width : T (among widths width)
-  pub known-bits : T (among bitCounts bits)
-  pub inside : r < blockOf width bits
+  pub known_width : T (among widths width)
+  pub known_bits : T (among bit_counts bits)
+  pub inside : r < block_of width bits
 
 pub record SourcesAsked (table : List ℕ) (width bits count : ℕ) : Type 0 where
-  pub known-width : T (among widths width)
-  pub known-bits : T (among bitCounts bits)
-  pub inside : count ≤ blockOf width bits
-  pub few : count ≤ mostBlock
+  pub known_width : T (among widths width)
+  pub known_bits : T (among bit_counts bits)
+  pub inside : count ≤ block_of width bits
+  pub few : count ≤ most_block
   pub room : count ≤ length table
 
 pub record ParsedAsked (s streams encoders k : ℕ) : Type 0 where
-  pub axis : T (among axisCounts s)
-  pub few-streams : streams ≤ 4
-  pub one-or-two : T (among encoderCounts encoders)
-  pub inside : k < mostBlock
+  pub axis : T (among axis_counts s)
+  pub few_streams : streams ≤ 4
+  pub one_or_two : T (among encoder_counts encoders)
+  pub inside : k < most_block
 
 pub record ParseAsked (table : List ℕ) (s streams encoders count : ℕ) : Type 0 where
-  pub axis : T (among axisCounts s)
-  pub few-streams : streams ≤ 4
-  pub one-or-two : T (among encoderCounts encoders)
-  pub few : count ≤ mostBlock
+  pub axis : T (among axis_counts s)
+  pub few_streams : streams ≤ 4
+  pub one_or_two : T (among encoder_counts encoders)
+  pub few : count ≤ most_block
   pub room : count ≤ length table
-  pub inside : (r : ℕ) → r < count → getD table r 0 < mostBlock
+  pub inside : (r : ℕ) → r < count → get_or table r 0 < most_block
 
 pub record TableAsked (table : List ℕ) (p : Plan) : Type 0 where
   pub fits : Fits p
-  pub room : p .block ≤ length table
+  pub room : p.block ≤ length table

@@ -1,17 +1,16 @@
 // One table for all streams: where the label bits of stream 0 stand among the coded bits. Stream i's stand i·s places on, and its labels begin
 // at its rotation.
-use chain::plan::Plan;
-use chain::plan::axis_bits;
-ghost use mathlib.Core.Path.{_≡_};
-ghost use lib.ListN.{getD};
-ghost use Rattle·laws.specs.Filled.{Filled};
-ghost use Rattle·chain.specs.Interleaver.{source};
-ghost use Rattle·sources·specs.specs.Sources.{codedSlot, labelSource, SourceAsked, SourcesAsked, ParsedAsked, ParseAsked, TableAsked};
+ghost use Rattle.std.specs.Prelude.{◌≡◌, get_or};
+ghost use Rattle.laws.specs.Filled.{Filled};
+ghost use Rattle.chain.specs.Interleaver.{source};
+ghost use Rattle.sources.specs.Sources.{coded_slot, label_source, SourceAsked, SourcesAsked, ParsedAsked, ParseAsked, TableAsked};
+
+use chain::plan::{Plan, axis_bits};
 
 // The bit of stream 0 that goes to label place r, at 20 MHz and at 40.
 fn source_20(bits: u16, r: u16) -> u16
-    requires { ⌜ SourceAsked 20 bits r ⌝ }
-    ensures { λ k. ⌜ k ≡ source 20 bits 0 r ⌝ }
+    requires { SourceAsked 20 bits r }
+    ensures { result ≡ source 20 bits 0 r }
 {
     if bits == 1 {
         return 13 * (r % 4) + r / 4;
@@ -26,8 +25,8 @@ fn source_20(bits: u16, r: u16) -> u16
 }
 
 fn source_40(bits: u16, r: u16) -> u16
-    requires { ⌜ SourceAsked 40 bits r ⌝ }
-    ensures { λ k. ⌜ k ≡ source 40 bits 0 r ⌝ }
+    requires { SourceAsked 40 bits r }
+    ensures { result ≡ source 40 bits 0 r }
 {
     if bits == 1 {
         return 18 * (r % 6) + r / 6;
@@ -42,8 +41,8 @@ fn source_40(bits: u16, r: u16) -> u16
 }
 
 fn source_of(width: u16, bits: u16, r: u16) -> u16
-    requires { ⌜ SourceAsked width bits r ⌝ }
-    ensures { λ k. ⌜ k ≡ source width bits 0 r ⌝ }
+    requires { SourceAsked width bits r }
+    ensures { result ≡ source width bits 0 r }
 {
     if width == 40 {
         return source_40(bits, r);
@@ -52,8 +51,8 @@ fn source_of(width: u16, bits: u16, r: u16) -> u16
 }
 
 fn stream_sources(table: &mut [u16], width: u16, bits: u16, count: u16)
-    requires { ⌜ SourcesAsked (now table) width bits count ⌝ }
-    ensures { λ _. ⌜ Filled 0 0 (λ r. source width bits 0 r) count (now (table .entry)) (now (table .exit)) ⌝ }
+    requires { SourcesAsked table.old width bits count }
+    ensures { Filled 0 0 (λ r. source width bits 0 r) count table.old table.new }
 {
     let mut r: u16 = 0;
     while r < count {
@@ -64,8 +63,8 @@ fn stream_sources(table: &mut [u16], width: u16, bits: u16, count: u16)
 
 // The parser: bit k of stream 0 among the coded bits.
 fn parsed(s: u16, streams: u16, encoders: u16, k: u16) -> u16
-    requires { ⌜ ParsedAsked s streams encoders k ⌝ }
-    ensures { λ r. ⌜ r ≡ codedSlot s streams encoders 0 k ⌝ }
+    requires { ParsedAsked s streams encoders k }
+    ensures { result ≡ coded_slot s streams encoders 0 k }
 {
     if encoders == 1 {
         if s == 1 {
@@ -87,8 +86,8 @@ fn parsed(s: u16, streams: u16, encoders: u16, k: u16) -> u16
 
 // A table of stream bits made one of coded bits.
 fn parse(table: &mut [u16], s: u16, streams: u16, encoders: u16, count: usize)
-    requires { ⌜ ParseAsked (now table) s streams encoders count ⌝ }
-    ensures { λ _. ⌜ Filled 0 0 (λ r. codedSlot s streams encoders 0 (getD (now (table .entry)) r 0)) count (now (table .entry)) (now (table .exit)) ⌝ }
+    requires { ParseAsked table.old s streams encoders count }
+    ensures { Filled 0 0 (λ r. coded_slot s streams encoders 0 (get_or table.old r 0)) count table.old table.new }
 {
     let mut r: usize = 0;
     while r < count {
@@ -98,8 +97,8 @@ fn parse(table: &mut [u16], s: u16, streams: u16, encoders: u16, count: usize)
 }
 
 pub fn label_sources(table: &mut [u16], plan: Plan)
-    requires { ⌜ TableAsked (now table) plan ⌝ }
-    ensures { λ _. ⌜ Filled 0 0 (λ r. labelSource plan r) (plan .block) (now (table .entry)) (now (table .exit)) ⌝ }
+    requires { TableAsked table.old plan }
+    ensures { Filled 0 0 (λ r. label_source plan r) plan.block table.old table.new }
 {
     let block = plan.block;
     stream_sources(table, plan.width as u16, plan.bits as u16, block as u16);
@@ -114,7 +113,7 @@ pub fn label_sources(table: &mut [u16], plan: Plan)
 
 // An entry of the table as a place.
 pub fn source_index(entry: u16) -> usize
-    ensures { λ r. ⌜ r ≡ entry ⌝ }
+    ensures { result ≡ entry }
 {
     entry as usize
 }

@@ -1,23 +1,23 @@
 -- The layout's laws: each a claim computed at both widths and every subcarrier, place or data carrier. Assumes nothing.
-use mathlib.Core.Path.{_≡_, refl, sym, ap, subst}
-use mathlib.Core.Bool.{Bool, true, false, cond, _||_}
-use mathlib.Core.List.{[], _∷_}
-use Prim.Native.Nat.{ℕ, _+_, _-_, _*_, _<_, _≤_}
+use mathlib.Core.Path.{◌≡◌, refl, sym, ap, subst}
+use mathlib.Core.Bool.{Bool, true, false, cond, ◌||◌}
+use mathlib.Core.List.{[], ◌∷◌}
+use Prim.Native.Nat.{ℕ, ◌+◌, ◌-◌, ◌*◌, ◌<◌, ◌≤◌}
 use native.Mathlib.Omega.{arith}
 use lib.Dec.{T, eqb, ltb, eqb→eq}
-use lib.ListN.{length, getD}
-use lib.IntN.{ℤ, pos, negsuc, _+ℤ_}
-use lib.Signed.{ltZ}
+use lib.ListN.{length, get_or}
+use lib.IntN.{ℤ, pos, negsuc, ◌+ℤ◌}
+use lib.Signed.{lt_z}
 use borrow.Author.Tests.{ltb-false, lt-ltb, le-ltb}
-use Rattle·laws.specs.Test.{among, either-elim}
-use Rattle·laws.specs.Integers.{minus, counted}
-use Rattle·laws.specs.Claim.{Claim, _is_, _under_, _and_, upTo, each, given, Holds, sound}
-use Rattle·laws.proofs.Integers.{counted-same}
-use Rattle·laws.proofs.Reflect.{or-false}
-use Rattle·chain.specs.Plan.{widths, carriersOf}
-use Rattle·subcarriers·specs.specs.declared.layout.Use.{Use}
-use Rattle·subcarriers·specs.specs.declared.layout.Use.the-variants.{Silent, Pilot, Data}
-use Rattle·subcarriers·specs.specs.Subcarriers.{usedSubcarriers, pilotSubcarriers, dataSubcarriers, placeIn, useOf, placesOf, subcarrierAt, pilotsOf, outside, Inside, subcarrierFrom, UseRight, PlaceUsed, CarrierPlace}
+use Rattle.laws.specs.Test.{among, either_elim}
+use Rattle.laws.specs.Integers.{minus, counted}
+use Rattle.laws.specs.Claim.{Claim, ◌is◌, ◌under◌, ◌and◌, up_to, each, given, Holds, sound}
+use Rattle.laws.proofs.Integers.{counted_same}
+use Rattle.laws.proofs.Reflect.{or_false}
+use Rattle.chain.specs.Plan.{widths, carriers_of}
+use Rattle.subcarriers.specs.declared.layout.Use.{Use}
+use Rattle.subcarriers.specs.declared.layout.Use.TheVariants.{Silent, Pilot, Data}
+use Rattle.subcarriers.specs.Subcarriers.{used_subcarriers, pilot_subcarriers, data_subcarriers, place_in, use_of, places_of, subcarrier_at, pilots_of, outside, Inside, subcarrier_from, UseRight, PlaceUsed, CarrierPlace}
 
 -- a test as a number
 abbrev pub one : Bool → ℕ
@@ -25,11 +25,11 @@ one true = 1
 one false = 0
 
 -- no two tests have the same number
-pub one-same : (a b : Bool) → one a ≡ one b → a ≡ b
-one-same true true e = refl
-one-same true false e = absurd (omega (arith, e))
-one-same false true e = absurd (omega (arith, e))
-one-same false false e = refl
+pub one_same : (a b : Bool) → one a ≡ one b → a ≡ b
+one_same true true e = refl
+one_same true false e = absurd (omega (arith, e))
+one_same false true e = absurd (omega (arith, e))
+one_same false false e = refl
 
 -- a use as a number
 abbrev pub code : Use → ℕ
@@ -38,135 +38,135 @@ code (Pilot q) = 1 + 2 * q
 code (Data c) = 2 + 2 * c
 
 -- no two uses have the same number
-pub code-same : (a b : Use) → code a ≡ code b → a ≡ b
-code-same Silent Silent e = refl
-code-same Silent (Pilot q) e = absurd (omega (arith, e))
-code-same Silent (Data c) e = absurd (omega (arith, e))
-code-same (Pilot p) Silent e = absurd (omega (arith, e))
-code-same (Pilot p) (Pilot q) e = ap Pilot (omega (arith, e))
-code-same (Pilot p) (Data c) e = absurd (omega (arith, e))
-code-same (Data d) Silent e = absurd (omega (arith, e))
-code-same (Data d) (Pilot q) e = absurd (omega (arith, e))
-code-same (Data d) (Data c) e = ap Data (omega (arith, e))
+pub code_same : (a b : Use) → code a ≡ code b → a ≡ b
+code_same Silent Silent e = refl
+code_same Silent (Pilot q) e = absurd (omega (arith, e))
+code_same Silent (Data c) e = absurd (omega (arith, e))
+code_same (Pilot p) Silent e = absurd (omega (arith, e))
+code_same (Pilot p) (Pilot q) e = ap Pilot (omega (arith, e))
+code_same (Pilot p) (Data c) e = absurd (omega (arith, e))
+code_same (Data d) Silent e = absurd (omega (arith, e))
+code_same (Data d) (Pilot q) e = absurd (omega (arith, e))
+code_same (Data d) (Data c) e = ap Data (omega (arith, e))
 
 -- what is outside the channel, by whether it is the wide one
-pub outside-by : (width : ℕ) (z : ℤ) (wide : Bool) → eqb width 40 ≡ wide
-    → (ltZ z (minus (cond wide 64 32)) || ltZ (pos (cond wide 64 32 - 1)) z) ≡ outside width z
-outside-by width z wide e = ap (λ (b : Bool). ltZ z (minus (cond b 64 32)) || ltZ (pos (cond b 64 32 - 1)) z) (sym e)
+pub outside_by : (width : ℕ) (z : ℤ) (wide : Bool) → eqb width 40 ≡ wide
+    → (lt_z z (minus (cond wide 64 32)) || lt_z (pos (cond wide 64 32 - 1)) z) ≡ outside width z
+outside_by width z wide e = ap (λ (b : Bool). lt_z z (minus (cond b 64 32)) || lt_z (pos (cond b 64 32 - 1)) z) (sym e)
 
 -- the index that a subcarrier of the channel is counted by
-abbrev pub indexOf : ℤ → ℕ
-indexOf (pos n) = n + 64
-indexOf (negsuc n) = 63 - n
+abbrev pub index_of : ℤ → ℕ
+index_of (pos n) = n + 64
+index_of (negsuc n) = 63 - n
 
-inside-pos : (n : ℕ) → Inside 40 (pos n) → n < 64
-inside-pos n e = omega (arith, ltb-false 63 n e)
+inside_pos : (n : ℕ) → Inside 40 (pos n) → n < 64
+inside_pos n e = omega (arith, ltb-false 63 n e)
 
-inside-neg : (n : ℕ) → Inside 40 (negsuc n) → n < 64
-inside-neg n e = omega (arith, ltb-false 63 n (or-false (ltb 63 n) false e .0))
+inside_neg : (n : ℕ) → Inside 40 (negsuc n) → n < 64
+inside_neg n e = omega (arith, ltb-false 63 n (or_false (ltb 63 n) false e).0)
 
 -- the index is below 128, and its subcarrier is the one that was given
-pub index-small : (z : ℤ) → Inside 40 z → indexOf z < 128
-index-small (pos n) e = omega (arith, inside-pos n e)
-index-small (negsuc n) e = omega arith
+pub index_small : (z : ℤ) → Inside 40 z → index_of z < 128
+index_small (pos n) e = omega (arith, inside_pos n e)
+index_small (negsuc n) e = omega arith
 
-abbrev indexClaim : Claim
-indexClaim = upTo 64 λ n.
-    counted (subcarrierFrom (n + 64)) is counted (pos n)
-    and counted (subcarrierFrom (63 - n)) is counted (negsuc n)
+abbrev index_claim : Claim
+index_claim = up_to 64 λ n.
+    counted (subcarrier_from (n + 64)) is counted (pos n)
+    and counted (subcarrier_from (63 - n)) is counted (negsuc n)
     and counted (negsuc n +ℤ pos 64) is counted (pos (63 - n))
 
-indexes : Holds indexClaim
-indexes = sound indexClaim tt
+indexes : Holds index_claim
+indexes = sound index_claim tt
 
-pub index-back : (z : ℤ) → Inside 40 z → subcarrierFrom (indexOf z) ≡ z
-index-back (pos n) e = counted-same (subcarrierFrom (n + 64)) (pos n) (indexes n (inside-pos n e) .0)
-index-back (negsuc n) e = counted-same (subcarrierFrom (63 - n)) (negsuc n) (indexes n (inside-neg n e) .1 .0)
+pub index_back : (z : ℤ) → Inside 40 z → subcarrier_from (index_of z) ≡ z
+index_back (pos n) e = counted_same (subcarrier_from (n + 64)) (pos n) (indexes n (inside_pos n e)).0
+index_back (negsuc n) e = counted_same (subcarrier_from (63 - n)) (negsuc n) (indexes n (inside_neg n e)).1.0
 
 -- the index is 64 more than the subcarrier
-pub index-sum : (z : ℤ) → Inside 40 z → z +ℤ pos 64 ≡ pos (indexOf z)
-index-sum (pos n) e = refl
-index-sum (negsuc n) e = counted-same (negsuc n +ℤ pos 64) (pos (63 - n)) (indexes n (inside-neg n e) .1 .1)
+pub index_sum : (z : ℤ) → Inside 40 z → z +ℤ pos 64 ≡ pos (index_of z)
+index_sum (pos n) e = refl
+index_sum (negsuc n) e = counted_same (negsuc n +ℤ pos 64) (pos (63 - n)) (indexes n (inside_neg n e)).1.1
 
 -- a fact of both widths
-pub by-width : (P : ℕ → Type 0) → P 20 → P 40 → (width : ℕ) → T (among widths width) → P width
-by-width P narrow broad width h =
-    either-elim (P width) (eqb width 20) (among (40 ∷ []) width) h (λ e. subst P (sym (eqb→eq width 20 e)) narrow)
-    (λ l. either-elim (P width) (eqb width 40) false l (λ e. subst P (sym (eqb→eq width 40 e)) broad) (λ n. absurd n))
+pub by_width : (P : ℕ → Type 0) → P 20 → P 40 → (width : ℕ) → T (among widths width) → P width
+by_width P narrow broad width h =
+    either_elim (P width) (eqb width 20) (among (40 ∷ []) width) h (λ e. subst P (sym (eqb→eq width 20 e)) narrow)
+    (λ l. either_elim (P width) (eqb width 40) false l (λ e. subst P (sym (eqb→eq width 40 e)) broad) (λ n. absurd n))
 
-narrow-inside : (z : ℤ) → Inside 20 z → Inside 40 z
-narrow-inside (pos n) e = le-ltb 63 n (omega (arith, ltb-false 31 n e))
-narrow-inside (negsuc n) e = simp (le-ltb 63 n (omega (arith, ltb-false 31 n (or-false (ltb 31 n) false e .0))))
+narrow_inside : (z : ℤ) → Inside 20 z → Inside 40 z
+narrow_inside (pos n) e = le-ltb 63 n (omega (arith, ltb-false 31 n e))
+narrow_inside (negsuc n) e = simp (le-ltb 63 n (omega (arith, ltb-false 31 n (or_false (ltb 31 n) false e).0)))
 
 -- a subcarrier of a channel is one of the wider
-pub inside-wide : (width : ℕ) → T (among widths width) → (z : ℤ) → Inside width z → Inside 40 z
-inside-wide = by-width (λ (w : ℕ). (z : ℤ) → Inside w z → Inside 40 z) narrow-inside (λ z e. e)
+pub inside_wide : (width : ℕ) → T (among widths width) → (z : ℤ) → Inside width z → Inside 40 z
+inside_wide = by_width (λ (w : ℕ). (z : ℤ) → Inside w z → Inside 40 z) narrow_inside (λ z e. e)
 
 -- what is claimed of a use
-abbrev rightUse : (width : ℕ) → Use → Claim
-rightUse width Silent = 0 is 0
-rightUse width (Pilot q) = q under pilotsOf width
-rightUse width (Data c) = c under carriersOf width
+abbrev right_use : (width : ℕ) → Use → Claim
+right_use width Silent = 0 is 0
+right_use width (Pilot q) = q under pilots_of width
+right_use width (Data c) = c under carriers_of width
 
-right-use : (width : ℕ) (u : Use) → Holds (rightUse width u) → UseRight width u
-right-use width Silent h = tt
-right-use width (Pilot q) h = h
-right-use width (Data c) h = h
+right_use_lem : (width : ℕ) (u : Use) → Holds (right_use width u) → UseRight width u
+right_use_lem width Silent h = tt
+right_use_lem width (Pilot q) h = h
+right_use_lem width (Data c) h = h
 
 -- at both widths and each of 128 subcarriers: its use, and the subcarrier at its place, or silence where it has none
-abbrev subcarrierClaim : Claim
-subcarrierClaim = each widths λ w. upTo 128 λ k.
-    let z : ℤ = subcarrierFrom k in
-    let f : ℕ = placeIn (usedSubcarriers w) z in
-    rightUse w (useOf w z)
-    and given (one (ltb f (placesOf w))) 1 (counted (subcarrierAt w f) is counted z)
-    and given (one (ltb f (placesOf w))) 0 (code (useOf w z) is 0)
+abbrev subcarrier_claim : Claim
+subcarrier_claim = each widths λ w. up_to 128 λ k.
+    let z : ℤ = subcarrier_from k in
+    let f : ℕ = place_in (used_subcarriers w) z in
+    right_use w (use_of w z)
+    and given (one (ltb f (places_of w))) 1 (counted (subcarrier_at w f) is counted z)
+    and given (one (ltb f (places_of w))) 0 (code (use_of w z) is 0)
 
-subcarriers : Holds subcarrierClaim
-unfolding usedSubcarriers pilotSubcarriers dataSubcarriers useOf subcarrierAt
-subcarriers = sound subcarrierClaim tt
+subcarriers : Holds subcarrier_claim
+unfolding used_subcarriers pilot_subcarriers data_subcarriers use_of subcarrier_at
+subcarriers = sound subcarrier_claim tt
 
 -- what holds at every index holds of every subcarrier of a channel
-at-index : (P : ℤ → Type 0) → ((k : ℕ) → k < 128 → P (subcarrierFrom k)) → (width : ℕ) → T (among widths width) → (z : ℤ) → Inside width z → P z
-at-index P every width h z inside =
-    let i = inside-wide width h z inside in
-    subst P (index-back z i) (every (indexOf z) (index-small z i))
+at_index : (P : ℤ → Type 0) → ((k : ℕ) → k < 128 → P (subcarrier_from k)) → (width : ℕ) → T (among widths width) → (z : ℤ) → Inside width z → P z
+at_index P every width h z inside =
+    let i = inside_wide width h z inside in
+    subst P (index_back z i) (every (index_of z) (index_small z i))
 
 -- the pilot or the data carrier of every subcarrier of a channel is one of the width's
-pub use-right : (width : ℕ) → T (among widths width) → (z : ℤ) → Inside width z → UseRight width (useOf width z)
-use-right width h =
-    at-index (λ (z : ℤ). UseRight width (useOf width z)) (λ k l. right-use width (useOf width (subcarrierFrom k)) (subcarriers width h k l .0)) width h
+pub use_right : (width : ℕ) → T (among widths width) → (z : ℤ) → Inside width z → UseRight width (use_of width z)
+use_right width h =
+    at_index (λ (z : ℤ). UseRight width (use_of width z)) (λ k l. right_use_lem width (use_of width (subcarrier_from k)) (subcarriers width h k l).0) width h
 
 placed : (width : ℕ) → T (among widths width) → (k : ℕ) → k < 128
-    → placeIn (usedSubcarriers width) (subcarrierFrom k) < placesOf width
-    → subcarrierAt width (placeIn (usedSubcarriers width) (subcarrierFrom k)) ≡ subcarrierFrom k
+    → place_in (used_subcarriers width) (subcarrier_from k) < places_of width
+    → subcarrier_at width (place_in (used_subcarriers width) (subcarrier_from k)) ≡ subcarrier_from k
 placed width h k l b =
-    let f : ℕ = placeIn (usedSubcarriers width) (subcarrierFrom k) in
-    counted-same (subcarrierAt width f) (subcarrierFrom k) (subcarriers width h k l .1 .0 (ap one (lt-ltb f (placesOf width) b)))
+    let f : ℕ = place_in (used_subcarriers width) (subcarrier_from k) in
+    counted_same (subcarrier_at width f) (subcarrier_from k) ((subcarriers width h k l).1.0 (ap one (lt-ltb f (places_of width) b)))
 
 -- a used subcarrier stands at its place
-pub place-used : (width : ℕ) → T (among widths width) → (z : ℤ) → Inside width z
-    → placeIn (usedSubcarriers width) z < placesOf width → subcarrierAt width (placeIn (usedSubcarriers width) z) ≡ z
-place-used width h =
-    at-index (λ (z : ℤ). placeIn (usedSubcarriers width) z < placesOf width → subcarrierAt width (placeIn (usedSubcarriers width) z) ≡ z)
+pub place_used : (width : ℕ) → T (among widths width) → (z : ℤ) → Inside width z
+    → place_in (used_subcarriers width) z < places_of width → subcarrier_at width (place_in (used_subcarriers width) z) ≡ z
+place_used width h =
+    at_index (λ (z : ℤ). place_in (used_subcarriers width) z < places_of width → subcarrier_at width (place_in (used_subcarriers width) z) ≡ z)
     (placed width h) width h
 
 -- so the use of the subcarrier at its place is its own
-pub use-at-place : (width : ℕ) → T (among widths width) → (z : ℤ) → Inside width z → (f : ℕ) → f ≡ placeIn (usedSubcarriers width) z
-    → f < placesOf width → useOf width (subcarrierAt width f) ≡ useOf width z
-use-at-place width h z inside f e l = ap (useOf width) (rw e (place-used width h z inside (rw e at l)))
+pub use_at_place : (width : ℕ) → T (among widths width) → (z : ℤ) → Inside width z → (f : ℕ) → f ≡ place_in (used_subcarriers width) z
+    → f < places_of width → use_of width (subcarrier_at width f) ≡ use_of width z
+use_at_place width h z inside f e l = ap (use_of width) (rw e (place_used width h z inside (rw e at l)))
 
 silent : (width : ℕ) → T (among widths width) → (k : ℕ) → k < 128
-    → placesOf width ≤ placeIn (usedSubcarriers width) (subcarrierFrom k) → useOf width (subcarrierFrom k) ≡ Silent
+    → places_of width ≤ place_in (used_subcarriers width) (subcarrier_from k) → use_of width (subcarrier_from k) ≡ Silent
 silent width h k l b =
-    let f : ℕ = placeIn (usedSubcarriers width) (subcarrierFrom k) in
-    code-same (useOf width (subcarrierFrom k)) Silent (subcarriers width h k l .1 .1 (ap one (le-ltb f (placesOf width) b)))
+    let f : ℕ = place_in (used_subcarriers width) (subcarrier_from k) in
+    code_same (use_of width (subcarrier_from k)) Silent ((subcarriers width h k l).1.1 (ap one (le-ltb f (places_of width) b)))
 
 -- one with no place is silent
-pub unused-silent : (width : ℕ) → T (among widths width) → (z : ℤ) → Inside width z
-    → placesOf width ≤ placeIn (usedSubcarriers width) z → useOf width z ≡ Silent
-unused-silent width h =
-    at-index (λ (z : ℤ). placesOf width ≤ placeIn (usedSubcarriers width) z → useOf width z ≡ Silent) (silent width h) width h
+pub unused_silent : (width : ℕ) → T (among widths width) → (z : ℤ) → Inside width z
+    → places_of width ≤ place_in (used_subcarriers width) z → use_of width z ≡ Silent
+unused_silent width h =
+    at_index (λ (z : ℤ). places_of width ≤ place_in (used_subcarriers width) z → use_of width z ≡ Silent) (silent width h) width h
 
 -- x is the place of index k where low .. gap - 1 and above .. top - 1 are the used indexes
 pub record Ranged (low gap above top skipped none k x : ℕ) : Type 0 where
@@ -176,99 +176,99 @@ pub record Ranged (low gap above top skipped none k x : ℕ) : Type 0 where
   pub upper : above ≤ k → k < top → k - skipped ≡ x
   pub beyond : top ≤ k → none ≡ x
 
-abbrev rangedClaim : (low gap above top skipped none k x : ℕ) → Claim
-rangedClaim low gap above top skipped none k x =
+abbrev ranged_claim : (low gap above top skipped none k x : ℕ) → Claim
+ranged_claim low gap above top skipped none k x =
     given (one (ltb k low)) 1 (none is x)
     and given (one (ltb k low)) 0 (given (one (ltb k gap)) 1 (k - low is x))
     and given (one (ltb k gap)) 0 (given (one (ltb k above)) 1 (none is x))
     and given (one (ltb k above)) 0 (given (one (ltb k top)) 1 (k - skipped is x))
     and given (one (ltb k top)) 0 (none is x)
 
-ranged : (low gap above top skipped none k x : ℕ) → Holds (rangedClaim low gap above top skipped none k x) → Ranged low gap above top skipped none k x
+ranged : (low gap above top skipped none k x : ℕ) → Holds (ranged_claim low gap above top skipped none k x) → Ranged low gap above top skipped none k x
 ranged low gap above top skipped none k x h =
     record {
-      below = λ l. h .0 (ap one (lt-ltb k low l));
-      lower = λ g l. h .1 .0 (ap one (le-ltb k low g)) (ap one (lt-ltb k gap l));
-      between = λ g l. h .1 .1 .0 (ap one (le-ltb k gap g)) (ap one (lt-ltb k above l));
-      upper = λ g l. h .1 .1 .1 .0 (ap one (le-ltb k above g)) (ap one (lt-ltb k top l));
-      beyond = λ g. h .1 .1 .1 .1 (ap one (le-ltb k top g));
+      below = λ l. h.0 (ap one (lt-ltb k low l));
+      lower = λ g l. h.1.0 (ap one (le-ltb k low g)) (ap one (lt-ltb k gap l));
+      between = λ g l. h.1.1.0 (ap one (le-ltb k gap g)) (ap one (lt-ltb k above l));
+      upper = λ g l. h.1.1.1.0 (ap one (le-ltb k above g)) (ap one (lt-ltb k top l));
+      beyond = λ g. h.1.1.1.1 (ap one (le-ltb k top g));
     }
 
-abbrev formClaim : Claim
-formClaim = upTo 128 λ k.
-    rangedClaim 36 64 65 93 37 56 k (placeIn (usedSubcarriers 20) (subcarrierFrom k))
-    and rangedClaim 6 63 66 123 9 114 k (placeIn (usedSubcarriers 40) (subcarrierFrom k))
+abbrev form_claim : Claim
+form_claim = up_to 128 λ k.
+    ranged_claim 36 64 65 93 37 56 k (place_in (used_subcarriers 20) (subcarrier_from k))
+    and ranged_claim 6 63 66 123 9 114 k (place_in (used_subcarriers 40) (subcarrier_from k))
 
-forms : Holds formClaim
-unfolding usedSubcarriers
-forms = sound formClaim tt
+forms : Holds form_claim
+unfolding used_subcarriers
+forms = sound form_claim tt
 
 -- the place of a subcarrier by its index, at 20 MHz and at 40
-pub form-20 : (k : ℕ) → k < 128 → Ranged 36 64 65 93 37 56 k (placeIn (usedSubcarriers 20) (subcarrierFrom k))
-form-20 k l = ranged 36 64 65 93 37 56 k (placeIn (usedSubcarriers 20) (subcarrierFrom k)) (forms k l .0)
+pub form_20 : (k : ℕ) → k < 128 → Ranged 36 64 65 93 37 56 k (place_in (used_subcarriers 20) (subcarrier_from k))
+form_20 k l = ranged 36 64 65 93 37 56 k (place_in (used_subcarriers 20) (subcarrier_from k)) (forms k l).0
 
-pub form-40 : (k : ℕ) → k < 128 → Ranged 6 63 66 123 9 114 k (placeIn (usedSubcarriers 40) (subcarrierFrom k))
-form-40 k l = ranged 6 63 66 123 9 114 k (placeIn (usedSubcarriers 40) (subcarrierFrom k)) (forms k l .1)
+pub form_40 : (k : ℕ) → k < 128 → Ranged 6 63 66 123 9 114 k (place_in (used_subcarriers 40) (subcarrier_from k))
+form_40 k l = ranged 6 63 66 123 9 114 k (place_in (used_subcarriers 40) (subcarrier_from k)) (forms k l).1
 
 -- at both widths and each place: its subcarrier is one of the channel, and used
-abbrev placeClaim : Claim
-placeClaim = each widths λ w. upTo (placesOf w) λ f.
-    one (outside w (subcarrierAt w f)) is 0 and 0 under code (useOf w (subcarrierAt w f))
+abbrev place_claim : Claim
+place_claim = each widths λ w. up_to (places_of w) λ f.
+    one (outside w (subcarrier_at w f)) is 0 and 0 under code (use_of w (subcarrier_at w f))
 
-places : Holds placeClaim
-unfolding usedSubcarriers pilotSubcarriers dataSubcarriers useOf subcarrierAt
-places = sound placeClaim tt
+places : Holds place_claim
+unfolding used_subcarriers pilot_subcarriers data_subcarriers use_of subcarrier_at
+places = sound place_claim tt
 
 -- every place has a used subcarrier of the channel
-pub place-used-for : (width : ℕ) → T (among widths width) → (f : ℕ) → f < placesOf width → PlaceUsed width f
-place-used-for width h f l =
-    let z : ℤ = subcarrierAt width f in
-    let inside : Inside width z = one-same (outside width z) false (places width h f l .0) in
+pub place_used_for : (width : ℕ) → T (among widths width) → (f : ℕ) → f < places_of width → PlaceUsed width f
+place_used_for width h f l =
+    let z : ℤ = subcarrier_at width f in
+    let inside : Inside width z = one_same (outside width z) false (places width h f l).0 in
     record {
       inside = inside;
-      not-silent = λ e. let none : code (useOf width z) ≡ 0 = ap code e in omega (arith, none, places width h f l .1);
+      not_silent = λ e. let none : code (use_of width z) ≡ 0 = ap code e in omega (arith, none, (places width h f l).1);
     }
 
 -- at both widths and each data carrier: the place of its subcarrier
-abbrev carrierAt : (width c : ℕ) → ℕ
-carrierAt width c = placeIn (usedSubcarriers width) (getD (dataSubcarriers width) c (pos 0))
+abbrev carrier_at : (width c : ℕ) → ℕ
+carrier_at width c = place_in (used_subcarriers width) (get_or (data_subcarriers width) c (pos 0))
 
-abbrev carrierClaim : Claim
-carrierClaim = each widths λ w. upTo (carriersOf w) λ c.
-    carrierAt w c under placesOf w and code (useOf w (subcarrierAt w (carrierAt w c))) is code (Data c)
+abbrev carrier_claim : Claim
+carrier_claim = each widths λ w. up_to (carriers_of w) λ c.
+    carrier_at w c under places_of w and code (use_of w (subcarrier_at w (carrier_at w c))) is code (Data c)
 
-carriers : Holds carrierClaim
-unfolding usedSubcarriers pilotSubcarriers dataSubcarriers useOf subcarrierAt
-carriers = sound carrierClaim tt
+carriers : Holds carrier_claim
+unfolding used_subcarriers pilot_subcarriers data_subcarriers use_of subcarrier_at
+carriers = sound carrier_claim tt
 
 -- every data carrier has a place
-pub carrier-place : (width : ℕ) → T (among widths width) → (c : ℕ) → c < carriersOf width → CarrierPlace width c
-carrier-place width h c l =
+pub carrier_place : (width : ℕ) → T (among widths width) → (c : ℕ) → c < carriers_of width → CarrierPlace width c
+carrier_place width h c l =
     record {
-      place = carrierAt width c;
-      inside = carriers width h c l .0;
-      carries = code-same (useOf width (subcarrierAt width (carrierAt width c))) (Data c) (carriers width h c l .1);
+      place = carrier_at width c;
+      inside = (carriers width h c l).0;
+      carries = code_same (use_of width (subcarrier_at width (carrier_at width c))) (Data c) (carriers width h c l).1;
     }
 
 -- the numbers of places, pilots and data carriers are those of the lists
-abbrev pub sizesClaim : Claim
-sizesClaim = each widths λ w.
-    length (usedSubcarriers w) is placesOf w and length (pilotSubcarriers w) is pilotsOf w and length (dataSubcarriers w) is carriersOf w
+abbrev pub sizes_claim : Claim
+sizes_claim = each widths λ w.
+    length (used_subcarriers w) is places_of w and length (pilot_subcarriers w) is pilots_of w and length (data_subcarriers w) is carriers_of w
 
-pub sizes-are : Holds sizesClaim
-unfolding usedSubcarriers pilotSubcarriers dataSubcarriers
-sizes-are = sound sizesClaim tt
+pub sizes_are : Holds sizes_claim
+unfolding used_subcarriers pilot_subcarriers data_subcarriers
+sizes_are = sound sizes_claim tt
 
 -- a stream has places, and at most 114
-pub places-some : (w : ℕ) → 0 < placesOf w
-places-some w = go (eqb w 40)
+pub places_some : (w : ℕ) → 0 < places_of w
+places_some w = go (eqb w 40)
   where
     go : (b : Bool) → 0 < cond b 114 56
     go true = omega arith
     go false = omega arith
 
-pub places-few : (w : ℕ) → placesOf w ≤ 114
-places-few w = go (eqb w 40)
+pub places_few : (w : ℕ) → places_of w ≤ 114
+places_few w = go (eqb w 40)
   where
     go : (b : Bool) → cond b 114 56 ≤ 114
     go true = omega arith

@@ -1,14 +1,12 @@
 // The subcarriers' uses (document 01 step 7).
-ghost use mathlib.Core.Path.{_≡_};
-ghost use Prim.Native.Nat.{_*_, _<_, _≤_};
-ghost use lib.Dec.{T};
-ghost use lib.IntN.{pos, _-ℤ_};
-ghost use Rattle·laws.specs.Test.{among};
-ghost use Rattle·chain.specs.Plan.{widths};
-ghost use Rattle·subcarriers·specs.specs.Subcarriers.{usedSubcarriers, placeIn, useOf, placesOf, subcarrierAt, subcarrierFrom, outside, Inside};
-ghost use Rattle·subcarriers·specs.specs.Runs.{halfRuns, runOf, runEnd, RunRight};
+ghost use Rattle.std.specs.Prelude.{◌≡◌, ◌*◌, ◌<◌, ◌≤◌, T, pos, ◌-ℤ◌};
+ghost use Rattle.laws.specs.Test.{among};
+ghost use Rattle.chain.specs.Plan.{widths};
+ghost use Rattle.subcarriers.specs.Subcarriers.{used_subcarriers, place_in, use_of, places_of, subcarrier_at, subcarrier_from, outside, Inside};
+ghost use Rattle.subcarriers.specs.Runs.{half_runs, run_of, run_end, RunRight};
 
 // Nothing, the pilot at a place, or the data carrier of a number, both counted from 0 with the subcarriers rising.
+#[derive(Drop)]
 pub enum Use {
     Silent,
     Pilot(usize),
@@ -16,6 +14,7 @@ pub enum Use {
 }
 
 // A run of data carriers at neighbouring places, and the pilot after it.
+#[derive(Drop)]
 pub struct Run {
     pub place: usize,
     pub carrier: usize,
@@ -27,7 +26,7 @@ pub struct Run {
 
 // Whether a subcarrier is none of the channel's: those are -32 to 31 at 20 MHz and -64 to 63 at 40.
 pub fn is_outside(width: usize, subcarrier: i32) -> bool
-    ensures { λ r. ⌜ r ≡ outside width subcarrier ⌝ }
+    ensures { result ≡ outside width subcarrier }
 {
     let wide = width == 40;
     if wide {
@@ -51,14 +50,14 @@ const COUNTS_40: [u8; 8] = [5, 27, 13, 9, 9, 13, 27, 5];
 
 // An entry of a table as a number of places.
 pub fn entry_index(entry: u8) -> usize
-    ensures { λ r. ⌜ r ≡ entry ⌝ }
+    ensures { result ≡ entry }
 {
     entry as usize
 }
 
 fn run_20(r: usize) -> Run
-    requires { ⌜ r < 6 ⌝ }
-    ensures { λ run. ⌜ run ≡ runOf 20 r ⌝ }
+    requires { r < 6 }
+    ensures { result ≡ run_of 20 r }
 {
     Run {
         place: entry_index(PLACES_20[r]),
@@ -71,8 +70,8 @@ fn run_20(r: usize) -> Run
 }
 
 fn run_40(r: usize) -> Run
-    requires { ⌜ r < 8 ⌝ }
-    ensures { λ run. ⌜ run ≡ runOf 40 r ⌝ }
+    requires { r < 8 }
+    ensures { result ≡ run_of 40 r }
 {
     Run {
         place: entry_index(PLACES_40[r]),
@@ -86,24 +85,24 @@ fn run_40(r: usize) -> Run
 
 // Run r of a stream's places.
 pub fn run_of(width: usize, r: usize) -> Run
-    requires { ⌜ T (among widths width) ⌝ }
-    requires { ⌜ r < 2 * halfRuns width ⌝ }
-    ensures { λ run. ⌜ run ≡ runOf width r ⌝ }
+    requires t { T (among widths width) }
+    requires r_bound { r < 2 * half_runs width }
+    ensures { result ≡ run_of width r }
 {
     if width == 40 { run_40(r) } else { run_20(r) }
 }
 
 // A subcarrier's number as an index, from -64 on: the one conversion.
 pub fn index(subcarrier: i32) -> usize
-    requires { ⌜ Inside 40 subcarrier ⌝ }
-    ensures { λ r. ⌜ (subcarrierFrom r ≡ subcarrier) × (r < 128) ⌝ }
+    requires { Inside 40 subcarrier }
+    ensures { (subcarrier_from result ≡ subcarrier) × (result < 128) }
 {
     (subcarrier + 64) as usize
 }
 
 // The place of a subcarrier among the used ones, by its index; 56 or 114 where it is unused.
 fn place_20(k: usize) -> usize
-    ensures { λ r. ⌜ (k < 128 → r ≡ placeIn (usedSubcarriers 20) (subcarrierFrom k)) ⌝ }
+    ensures { k < 128 → result ≡ place_in (used_subcarriers 20) (subcarrier_from k) }
 {
     if k < 36 {
         return 56;
@@ -121,7 +120,7 @@ fn place_20(k: usize) -> usize
 }
 
 fn place_40(k: usize) -> usize
-    ensures { λ r. ⌜ (k < 128 → r ≡ placeIn (usedSubcarriers 40) (subcarrierFrom k)) ⌝ }
+    ensures { k < 128 → result ≡ place_in (used_subcarriers 40) (subcarrier_from k) }
 {
     if k < 6 {
         return 114;
@@ -139,9 +138,9 @@ fn place_40(k: usize) -> usize
 }
 
 fn place_of(width: usize, k: usize) -> usize
-    requires { ⌜ T (among widths width) ⌝ }
-    requires { ⌜ k < 128 ⌝ }
-    ensures { λ r. ⌜ r ≡ placeIn (usedSubcarriers width) (subcarrierFrom k) ⌝ }
+    requires t { T (among widths width) }
+    requires k_bound { k < 128 }
+    ensures { result ≡ place_in (used_subcarriers width) (subcarrier_from k) }
 {
     if width == 40 {
         place_40(k)
@@ -152,7 +151,7 @@ fn place_of(width: usize, k: usize) -> usize
 
 // Places of a stream's points.
 pub fn places_of(width: usize) -> usize
-    ensures { λ r. ⌜ r ≡ placesOf width ⌝ }
+    ensures { result ≡ places_of width }
 {
     let wide = width == 40;
     if wide { 114 } else { 56 }
@@ -160,7 +159,7 @@ pub fn places_of(width: usize) -> usize
 
 // Runs of a stream's places.
 pub fn runs_of(width: usize) -> usize
-    ensures { λ r. ⌜ r ≡ 2 * halfRuns width ⌝ }
+    ensures { result ≡ 2 * half_runs width }
 {
     let wide = width == 40;
     if wide { 8 } else { 6 }
@@ -168,9 +167,9 @@ pub fn runs_of(width: usize) -> usize
 
 // The run that a place is in, its pilot counted.
 fn run_at(width: usize, f: usize) -> Run
-    requires { ⌜ T (among widths width) ⌝ }
-    requires { ⌜ f < placesOf width ⌝ }
-    ensures { λ run. ⌜ RunRight width run × ((run .place ≤ f) × (f < runEnd run)) ⌝ }
+    requires t { T (among widths width) }
+    requires f_bound { f < places_of width }
+    ensures { RunRight width result × ((result.place ≤ f) × (f < run_end result)) }
 {
     let runs = runs_of(width);
     let mut run = run_of(width, 0);
@@ -188,9 +187,9 @@ fn run_at(width: usize, f: usize) -> Run
 
 // What the subcarrier at place f is used for.
 fn use_at(width: usize, f: usize) -> Use
-    requires { ⌜ T (among widths width) ⌝ }
-    requires { ⌜ f < placesOf width ⌝ }
-    ensures { λ r. ⌜ r ≡ useOf width (subcarrierAt width f) ⌝ }
+    requires t { T (among widths width) }
+    requires f_bound { f < places_of width }
+    ensures { result ≡ use_of width (subcarrier_at width f) }
 {
     let run = run_at(width, f);
     let k = f - run.place;
@@ -202,17 +201,17 @@ fn use_at(width: usize, f: usize) -> Use
 
 // A place less a number of places, below 0 where it is more.
 fn places_from(f: usize, k: usize) -> i32
-    requires { ⌜ (f < 114) × (k < 64) ⌝ }
-    ensures { λ r. ⌜ r ≡ pos f -ℤ pos k ⌝ }
+    requires { (f < 114) × (k < 64) }
+    ensures { result ≡ pos f -ℤ pos k }
 {
     f as i32 - k as i32
 }
 
 // The subcarrier at place f, by its own number.
 pub fn subcarrier_of(width: usize, f: usize) -> i32
-    requires { ⌜ T (among widths width) ⌝ }
-    requires { ⌜ f < placesOf width ⌝ }
-    ensures { λ r. ⌜ r ≡ subcarrierAt width f ⌝ }
+    requires t { T (among widths width) }
+    requires f_bound { f < places_of width }
+    ensures { result ≡ subcarrier_at width f }
 {
     if width == 40 {
         if f < 57 {
@@ -228,9 +227,9 @@ pub fn subcarrier_of(width: usize, f: usize) -> i32
 
 // What a subcarrier of the channel is used for.
 pub fn use_of(width: usize, subcarrier: i32) -> Use
-    requires { ⌜ T (among widths width) ⌝ }
-    requires { ⌜ Inside width subcarrier ⌝ }
-    ensures { λ r. ⌜ r ≡ useOf width subcarrier ⌝ }
+    requires t { T (among widths width) }
+    requires inside { Inside width subcarrier }
+    ensures { result ≡ use_of width subcarrier }
 {
     let f = place_of(width, index(subcarrier));
     if f < places_of(width) {

@@ -1,10 +1,9 @@
 // Text in a fixed row of 40 bytes.
-ghost use mathlib.Core.Path.{_≡_};
-ghost use Prim.Native.Nat.{_+_, _*_, _<_, _≤_};
-ghost use lib.ListN.{length};
-ghost use Rattle·text·specs.specs.Printing.{headerText, tooLongText, emptyRow, pushed, pushedAll, hexDigit, hexBytes, digitIf, decimal};
+ghost use Rattle.std.specs.Prelude.{◌≡◌, ◌+◌, ◌*◌, ◌<◌, ◌≤◌, length};
+ghost use Rattle.text.specs.Printing.{header_text, too_long_text, empty_row, pushed, pushed_all, hex_digit, hex_bytes, digit_if, decimal};
 
 // The text is the first `len` bytes; the others are 0.
+#[derive(Drop)]
 pub struct Row {
     pub bytes: [u8; 40],
     pub len: usize,
@@ -15,19 +14,19 @@ const HEADER: [u8; 31] = *b"mcs width length symbols htsig\n";
 const TOO_LONG: [u8; 9] = *b"too long\n";
 
 pub fn header() -> [u8; 31]
-    ensures { λ r. ⌜ r ≡ headerText ⌝ }
+    ensures { result ≡ header_text }
 {
     HEADER
 }
 
 pub fn too_long_text() -> [u8; 9]
-    ensures { λ r. ⌜ r ≡ tooLongText ⌝ }
+    ensures { result ≡ too_long_text }
 {
     TOO_LONG
 }
 
 pub fn empty_row() -> Row
-    ensures { λ r. ⌜ r ≡ emptyRow ⌝ }
+    ensures { result ≡ empty_row }
 {
     Row {
         bytes: [0; 40],
@@ -36,8 +35,8 @@ pub fn empty_row() -> Row
 }
 
 pub fn push(row: Row, b: u8) -> Row
-    requires { ⌜ row .len < 40 ⌝ }
-    ensures { λ r. ⌜ r ≡ pushed row b ⌝ }
+    requires { row.len < 40 }
+    ensures { result ≡ pushed row b }
 {
     let mut next = row;
     let at = next.len;
@@ -47,8 +46,8 @@ pub fn push(row: Row, b: u8) -> Row
 }
 
 fn hex_digit(n: u8) -> u8
-    requires { ⌜ n < 16 ⌝ }
-    ensures { λ r. ⌜ r ≡ hexDigit n ⌝ }
+    requires { n < 16 }
+    ensures { result ≡ hex_digit n }
 {
     let small = n < 10;
     if small { 48 + n } else { 55 + n }
@@ -56,8 +55,8 @@ fn hex_digit(n: u8) -> u8
 
 // Each byte as two capital hexadecimal digits.
 pub fn push_hex(row: Row, bytes: &[u8]) -> Row
-    requires { ⌜ row .len + 2 * length (now bytes) ≤ 40 ⌝ }
-    ensures { λ r. ⌜ r ≡ pushedAll row (hexBytes (now (bytes .entry))) ⌝ }
+    requires { row.len + 2 * length bytes.now ≤ 40 }
+    ensures { result ≡ pushed_all row (hex_bytes bytes.now) }
 {
     let mut next = row;
     let mut i = 0;
@@ -70,8 +69,8 @@ pub fn push_hex(row: Row, bytes: &[u8]) -> Row
 }
 
 pub fn push_text(row: Row, text: &[u8]) -> Row
-    requires { ⌜ row .len + length (now text) ≤ 40 ⌝ }
-    ensures { λ r. ⌜ r ≡ pushedAll row (now (text .entry)) ⌝ }
+    requires { row.len + length text.now ≤ 40 }
+    ensures { result ≡ pushed_all row text.now }
 {
     let mut next = row;
     let mut i = 0;
@@ -83,8 +82,8 @@ pub fn push_text(row: Row, text: &[u8]) -> Row
 }
 
 fn push_digit_if(row: Row, shown: bool, n: u64) -> Row
-    requires { ⌜ (row .len < 40) × (n < 10) ⌝ }
-    ensures { λ r. ⌜ (r ≡ pushedAll row (digitIf shown n)) × (r .len ≤ row .len + 1) ⌝ }
+    requires { (row.len < 40) × (n < 10) }
+    ensures { (result ≡ pushed_all row (digit_if shown n)) × (result.len ≤ row.len + 1) }
 {
     if shown {
         push(row, (48 + n) as u8)
@@ -95,8 +94,8 @@ fn push_digit_if(row: Row, shown: bool, n: u64) -> Row
 
 // A number of at most five digits, without leading zeros.
 pub fn push_decimal(row: Row, n: u64) -> Row
-    requires { ⌜ (row .len + 5 ≤ 40) × (n < 100000) ⌝ }
-    ensures { λ r. ⌜ (r ≡ pushedAll row (decimal n)) × (r .len ≤ row .len + 5) ⌝ }
+    requires { (row.len + 5 ≤ 40) × (n < 100000) }
+    ensures { (result ≡ pushed_all row (decimal n)) × (result.len ≤ row.len + 5) }
 {
     let a = push_digit_if(row, n >= 10000, n / 10000 % 10);
     let b = push_digit_if(a, n >= 1000, n / 1000 % 10);

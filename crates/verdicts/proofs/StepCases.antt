@@ -1,110 +1,110 @@
 -- A step by its cases: what holds of each kind of answer, with the state that stands beside it, holds of every step. Assumes nothing.
-use mathlib.Core.Path.{_≡_, _∙_, refl, sym, ap, subst}
+use mathlib.Core.Path.{◌≡◌, ◌∙◌, refl, sym, ap, subst}
 use mathlib.Core.Bool.{Bool, true, false, cond}
 use mathlib.Core.List.{List}
-use mathlib.Core.Logic.{_⊎_, inl, inr, ⊎-elim}
+use mathlib.Core.Logic.{◌⊎◌, inl, inr, ⊎_elim}
 use Prim.Native.Nat.{ℕ}
 use lib.ListN.{length}
 use lib.IntN.{ℤ}
 use lib.Ieee.{Float}
-use Rattle·chain.specs.Decoder.{decodes}
-use Rattle·settings.specs.declared.settings.Refusal.the-variants.{Room, Code, Frame, Closed}
-use Rattle·settings.specs.declared.settings.Settings.{Settings}
-use Rattle·settings.specs.declared.settings.Checked.{Checked}
-use Rattle·settings.specs.declared.settings.Checked.the-variants.{Accepted, Refused}
-use Rattle·settings.specs.Settings.{checkOf, planFor}
-use Rattle·settings.proofs.SettingsLaws.{passed}
-use Rattle·subcarriers.specs.Subcarriers.{subcarrierAt}
-use Rattle·detector.specs.declared.search.Search.{Search}
-use Rattle·detector.specs.declared.search.Search.the-variants.{AllGiven, At}
-use Rattle·detector.specs.Detected.{searchOf, shownBit}
-use Rattle·reader_state.specs.declared.state.Reader.{Reader}
-use Rattle·acceptance.specs.declared.accept.StepAnswer.{StepAnswer}
-use Rattle·acceptance.specs.declared.accept.StepAnswer.the-variants.{First, Next, BadPoint, Refused as StepRefused}
-use Rattle·acceptance.specs.declared.accept.Stepped.{Stepped}
-use Rattle·reader_state.specs.State.{InRange, openRaw, historyOf, closedOf, endedOf}
-use Rattle·acceptance.specs.Accepted.{answered, scramblerFor, plainOf, frameRight, partLeft, movedWith, acceptedWith}
-use Rattle·reader.specs.Step.{heardInput, historiesAfter, bySearch, noRoom, stepBy, stepOf, stepNumber}
-use Rattle·reader_state.proofs.StateLaws.{in-range, not-closed}
-use Rattle·verdicts·specs.specs.Statements.{settingsIn, InReach}
+use Rattle.chain.specs.Decoder.{decodes}
+use Rattle.settings.specs.declared.settings.Refusal.TheVariants.{Room, Code, Frame, Closed}
+use Rattle.settings.specs.declared.settings.Settings.{Settings}
+use Rattle.settings.specs.declared.settings.Checked.{Checked}
+use Rattle.settings.specs.declared.settings.Checked.TheVariants.{Accepted, Refused}
+use Rattle.settings.specs.Settings.{check_of, plan_for}
+use Rattle.settings.proofs.SettingsLaws.{passed}
+use Rattle.subcarriers.specs.Subcarriers.{subcarrier_at}
+use Rattle.detector.specs.declared.search.Search.{Search}
+use Rattle.detector.specs.declared.search.Search.TheVariants.{AllGiven, At}
+use Rattle.detector.specs.Detected.{search_of, shown_bit}
+use Rattle.reader_state.specs.declared.state.Reader.{Reader}
+use Rattle.acceptance.specs.declared.accept.StepAnswer.{StepAnswer}
+use Rattle.acceptance.specs.declared.accept.StepAnswer.TheVariants.{First, Next, BadPoint, Refused as StepRefused}
+use Rattle.acceptance.specs.declared.accept.Stepped.{Stepped}
+use Rattle.reader_state.specs.State.{InRange, open_raw, history_of, closed_of, ended_of}
+use Rattle.acceptance.specs.Accepted.{answered, scrambler_for, plain_of, frame_right, part_left, moved_with, accepted_with}
+use Rattle.reader.specs.Step.{heard_input, histories_after, by_search, no_room, step_by, step_of, step_number}
+use Rattle.reader_state.proofs.StateLaws.{in_range, not_closed}
+use Rattle.verdicts.specs.Statements.{settings_in, InReach}
 
 module _ (s : Settings) (st : Reader) (points : List Float) where
   -- the inputs that the points show
   abbrev pub heard : ℕ → ℕ
-  heard d = heardInput s st (shownBit (planFor s) points) d
+  heard d = heard_input s st (shown_bit (plan_for s) points) d
 
   -- whether there are such inputs
   abbrev pub decoded : Bool
-  decoded = decodes (planFor s) (historyOf st) (shownBit (planFor s) points)
+  decoded = decodes (plan_for s) (history_of st) (shown_bit (plan_for s) points)
 
   -- the state after them
   abbrev pub moved : Reader
-  moved = movedWith s st (historiesAfter s st heard) (scramblerFor st heard) (partLeft s (st .symbol) (st .part) (plainOf st heard))
+  moved = moved_with s st (histories_after s st heard) (scrambler_for st heard) (part_left s st.symbol st.part (plain_of st heard))
 
 -- the step of a state in range
-pub step-open : (st : Reader) (points : List Float) (bytes : ℕ) → InReach st → stepOf st points bytes
-    ≡ cond (noRoom (settingsIn st) (length points) bytes) (answered (StepRefused Room) st)
-    (bySearch (searchOf (planFor (settingsIn st)) points (settingsIn st .format) (st .symbol)) (settingsIn st) st points)
-step-open st points bytes o =
-    let s = settingsIn st in
-    ap (λ (x : Checked). stepBy x st points bytes) (o .accepted)
+pub step_open : (st : Reader) (points : List Float) (bytes : ℕ) → InReach st → step_of st points bytes
+    ≡ cond (no_room (settings_in st) (length points) bytes) (answered (StepRefused Room) st)
+    (by_search (search_of (plan_for (settings_in st)) points (settings_in st).format st.symbol) (settings_in st) st points)
+step_open st points bytes o =
+    let s = settings_in st in
+    ap (λ (x : Checked). step_by x st points bytes) o.accepted
     ∙ ap (λ (b : Bool). cond b (answered (StepRefused Closed) st)
-    (cond (noRoom s (length points) bytes) (answered (StepRefused Room) st) (bySearch (searchOf (planFor s) points (s .format) (st .symbol)) s st points)))
-    (not-closed s st (o .in-range))
+    (cond (no_room s (length points) bytes) (answered (StepRefused Room) st) (by_search (search_of (plan_for s) points s.format st.symbol) s st points)))
+    (not_closed s st o.in_range)
 
 -- a state is in range with its settings accepted, or a step from it is 12 and gives it back
-pub reach : (st : Reader) (points : List Float) (bytes : ℕ) → InReach st ⊎ (stepOf st points bytes ≡ answered (StepRefused Closed) st)
-reach st points bytes = by-check (checkOf (openRaw (st .settings))) refl
+pub reach : (st : Reader) (points : List Float) (bytes : ℕ) → InReach st ⊎ (step_of st points bytes ≡ answered (StepRefused Closed) st)
+reach st points bytes = by_check (check_of (open_raw st.settings)) refl
   where
-    by-state : (s : Settings) → checkOf (openRaw (st .settings)) ≡ Accepted s → (b : Bool) → closedOf s st ≡ b
-        → InReach st ⊎ (stepOf st points bytes ≡ answered (StepRefused Closed) st)
-    by-state s e true c =
-        inr (ap (λ (x : Checked). stepBy x st points bytes) e
+    by_state : (s : Settings) → check_of (open_raw st.settings) ≡ Accepted s → (b : Bool) → closed_of s st ≡ b
+        → InReach st ⊎ (step_of st points bytes ≡ answered (StepRefused Closed) st)
+    by_state s e true c =
+        inr (ap (λ (x : Checked). step_by x st points bytes) e
         ∙ ap (λ (b : Bool). cond b (answered (StepRefused Closed) st)
-        (cond (noRoom s (length points) bytes) (answered (StepRefused Room) st) (bySearch (searchOf (planFor s) points (s .format) (st .symbol)) s st points))) c)
-    by-state s e false c =
-        let meant = passed (openRaw (st .settings)) s e .meant in
+        (cond (no_room s (length points) bytes) (answered (StepRefused Room) st) (by_search (search_of (plan_for s) points s.format st.symbol) s st points))) c)
+    by_state s e false c =
+        let meant = (passed (open_raw st.settings) s e).meant in
         inl (record {
           accepted = e ∙ ap Accepted (sym meant);
-          in-range = subst (λ (k : Settings). InRange k st) (sym meant) (in-range s st c);
+          in_range = subst (λ (k : Settings). InRange k st) (sym meant) (in_range s st c);
         })
 
-    by-check : (x : Checked) → checkOf (openRaw (st .settings)) ≡ x → InReach st ⊎ (stepOf st points bytes ≡ answered (StepRefused Closed) st)
-    by-check (Accepted s) e = by-state s e (closedOf s st) refl
-    by-check (Refused r) e = inr (ap (λ (x : Checked). stepBy x st points bytes) e)
+    by_check : (x : Checked) → check_of (open_raw st.settings) ≡ x → InReach st ⊎ (step_of st points bytes ≡ answered (StepRefused Closed) st)
+    by_check (Accepted s) e = by_state s e (closed_of s st) refl
+    by_check (Refused r) e = inr (ap (λ (x : Checked). step_by x st points bytes) e)
 
 -- an accepted symbol's number
-pub accepted-zero : (first : Bool) (seed : ℕ) → stepNumber (cond first (First seed) Next) ≡ 0
-accepted-zero true seed = refl
-accepted-zero false seed = refl
+pub accepted_zero : (first : Bool) (seed : ℕ) → step_number (cond first (First seed) Next) ≡ 0
+accepted_zero true seed = refl
+accepted_zero false seed = refl
 
 -- the cases
 module _ (P : Stepped → Type 0) (st : Reader) (closed : P (answered (StepRefused Closed) st)) (room : P (answered (StepRefused Room) st))
-    (point : (i : ℕ) (z : ℤ) → P (answered (BadPoint i z) (endedOf st))) (code : P (answered (StepRefused Code) (endedOf st)))
-    (frame : P (answered (StepRefused Frame) (endedOf st))) (points : List Float) where
-  by-tests : (m : Reader) (a : StepAnswer) (c f : Bool) → P (answered a m)
-      → P (cond c (cond f (answered a m) (answered (StepRefused Frame) (endedOf st))) (answered (StepRefused Code) (endedOf st)))
-  by-tests m a true true accepted = accepted
-  by-tests m a true false accepted = frame
-  by-tests m a false f accepted = code
+    (point : (i : ℕ) (z : ℤ) → P (answered (BadPoint i z) (ended_of st))) (code : P (answered (StepRefused Code) (ended_of st)))
+    (frame : P (answered (StepRefused Frame) (ended_of st))) (points : List Float) where
+  by_tests_lem : (m : Reader) (a : StepAnswer) (c f : Bool) → P (answered a m)
+      → P (cond c (cond f (answered a m) (answered (StepRefused Frame) (ended_of st))) (answered (StepRefused Code) (ended_of st)))
+  by_tests_lem m a true true accepted = accepted
+  by_tests_lem m a true false accepted = frame
+  by_tests_lem m a false f accepted = code
 
-  by-points : (s : Settings) (x : Search) → P (answered (acceptedWith st (scramblerFor st (heard s st points))) (moved s st points)) → P (bySearch x s st points)
-  by-points s (At i f) accepted = point i (subcarrierAt (s .width) f)
-  by-points s AllGiven accepted =
-      by-tests (moved s st points) (acceptedWith st (scramblerFor st (heard s st points))) (decoded s st points) (frameRight s st (heard s st points)) accepted
+  by_points : (s : Settings) (x : Search) → P (answered (accepted_with st (scrambler_for st (heard s st points))) (moved s st points)) → P (by_search x s st points)
+  by_points s (At i f) accepted = point i (subcarrier_at s.width f)
+  by_points s AllGiven accepted =
+      by_tests_lem (moved s st points) (accepted_with st (scrambler_for st (heard s st points))) (decoded s st points) (frame_right s st (heard s st points)) accepted
 
-  by-room : (b : Bool) (x : Stepped) → P x → P (cond b (answered (StepRefused Room) st) x)
-  by-room true x p = room
-  by-room false x p = p
+  by_room : (b : Bool) (x : Stepped) → P x → P (cond b (answered (StepRefused Room) st) x)
+  by_room true x p = room
+  by_room false x p = p
 
-  pub step-by : (bytes : ℕ)
-      → (InReach st → P (answered (acceptedWith st (scramblerFor st (heard (settingsIn st) st points))) (moved (settingsIn st) st points)))
-      → P (stepOf st points bytes)
-  step-by bytes accepted =
-      ⊎-elim
+  pub step_by_lem : (bytes : ℕ)
+      → (InReach st → P (answered (accepted_with st (scrambler_for st (heard (settings_in st) st points))) (moved (settings_in st) st points)))
+      → P (step_of st points bytes)
+  step_by_lem bytes accepted =
+      ⊎_elim
       (λ (o : InReach st).
-      let s = settingsIn st in
-      let x = searchOf (planFor s) points (s .format) (st .symbol) in
-      subst P (sym (step-open st points bytes o)) (by-room (noRoom s (length points) bytes) (bySearch x s st points) (by-points s x (accepted o))))
+      let s = settings_in st in
+      let x = search_of (plan_for s) points s.format st.symbol in
+      subst P (sym (step_open st points bytes o)) (by_room (no_room s (length points) bytes) (by_search x s st points) (by_points s x (accepted o))))
       (λ e. subst P (sym e) closed)
       (reach st points bytes)

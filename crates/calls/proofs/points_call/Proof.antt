@@ -1,73 +1,72 @@
 -- `points_call`: a number for each answer; the floats are the call's own.
-use mathlib.Core.Path.{_≡_, sym, ap, _∙_}
-use Prim.Native.Nat.{ℕ, _≤_}
+use mathlib.Core.Path.{◌≡◌, sym, ap, ◌∙◌}
+use Prim.Native.Nat.{ℕ, ◌≤◌}
 use native.Mathlib.Omega.{arith}
 use lib.ListN.{length}
-use denote.Ref.{now}
-use Rattle·frame.specs.declared.points.PointsAnswer.the-variants.{Written}
-use Rattle·frame.proofs.PointsLaws.{written-few}
-use Rattle·conversions.specs.Results.{pointsResult}
-use Rattle·conversions.proofs.Minus.{pos-fits, pos-is}
-use borrow.Author.Needs.{needs}
-use Rattle·calls·proofs.proofs.points_call.Statement.{statement}
-use Rattle·calls·proofs.proofs.points_call.Tie as tie
+use Rattle.frame.specs.declared.points.PointsAnswer.TheVariants.{Written}
+use Rattle.frame.proofs.PointsLaws.{written_few}
+use Rattle.conversions.specs.Results.{points_result}
+use Rattle.conversions.proofs.Minus.{pos_fits, pos_is}
+use borrow.Author.Rules.{rules}
+use Rattle.calls.proofs.points_call.Statement.{statement}
+use Rattle.calls.proofs.points_call.Tie as tie
 
 abbrev called : tie.After-n → tie.After-points
-called g = g .before .before .before .before
+called g = g.before.before.before.before
 
 -- a number of floats that the call gives is small
-few : (k : tie.After-points) (n : ℕ) → k .points .result ≡ Written n → n ≤ 912
+few : (k : tie.After-points) (n : ℕ) → k.points.result ≡ Written n → n ≤ 912
 few k n e =
-    let a = k .before .before .before .before .args in
-    written-few (a .raw) (length (now (a .payload))) (a .symbol) (length (now (a .out))) n (sym (k .points .ensures .0) ∙ e)
+    let a = k.before.before.before.before.args in
+    written_few a.raw (length a.payload.now) a.symbol (length a.out.now) n (sym k.points.ensures.0 ∙ e)
 
-points-requires : tie.Need-points-requires
-points-requires c κs = search needs
+points_requires : tie.Need-points-requires
+points_requires c κs = search rules
 
-enum-known-n : tie.Need-enum-known-n
-enum-known-n c = search needs
+enum_known_n : tie.Need-enum-known-n
+enum_known_n c = search rules
 
-cast-result : tie.Need-cast-result
-cast-result c =
-    let g = c .before in
+cast_result : tie.Need-overflow-cast-result
+cast_result c =
+    let g = c.before in
     let k = called g in
-    pos-fits (g .n .given .0 .0) (omega (arith, few k (g .n .given .0 .0) (g .n .given .1)))
+    pos_fits g.n.given.0.0 (omega (arith, few k g.n.given.0.0 g.n.given.1))
 
-enum-known-r : tie.Need-enum-known-r
-enum-known-r c = search needs
+enum_known_r : tie.Need-enum-known-r
+enum_known_r c = search rules
 
-refused-requires : tie.Need-refused-requires
-refused-requires c κs = search needs
+refused_requires : tie.Need-refused-requires
+refused_requires c κs = search rules
 
-same-length : tie.Need-same-length
-same-length c = search needs
+same_length : tie.Need-same-length
+same_length c = search rules
 
 returns : tie.Need-returns
 returns c =
-    let g = c .before in
+    let g = c.before in
     let k = called g in
-    let e = sym (g .n .given .1) ∙ k .points .ensures .0 in
-    (pos-is (g .n .given .0 .0) (omega (arith, few k (g .n .given .0 .0) (g .n .given .1))) ∙ ap pointsResult e, k .points .ensures .1)
+    let e = sym g.n.given.1 ∙ k.points.ensures.0 in
+    (pos_is g.n.given.0.0 (omega (arith, few k g.n.given.0.0 g.n.given.1)) ∙ ap points_result e, k.points.ensures.1)
 
-same-length-2 : tie.Need-same-length-2
-same-length-2 c = search needs
+same_length_2 : tie.Need-same-length-2
+same_length_2 c = search rules
 
-returns-2 : tie.Need-returns-2
-returns-2 c =
-    let g = c .before .before in
-    let k = g .before .before .before .before in
-    (search needs ∙ c .refused .ensures ∙ ap pointsResult (sym (g .r .given .1) ∙ k .points .ensures .0), k .points .ensures .1)
+returns_2 : tie.Need-returns-2
+returns_2 c =
+    let g = c.before.before in
+    let k = g.before.before.before.before in
+    (search rules ∙ c.refused.ensures ∙ ap points_result (sym g.r.given.1 ∙ k.points.ensures.0), k.points.ensures.1)
 
-pub points-call-spec : {M : Type 1} → statement M
-points-call-spec =
+pub points_call_spec : {M : Type 1} → statement M
+points_call_spec =
     tie.close
     (tie.spec
-    points-requires
-    enum-known-n
-    cast-result
-    enum-known-r
-    refused-requires
-    same-length
+    points_requires
+    enum_known_n
+    cast_result
+    enum_known_r
+    refused_requires
+    same_length
     returns
-    same-length-2
-    returns-2)
+    same_length_2
+    returns_2)

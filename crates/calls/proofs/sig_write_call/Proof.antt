@@ -1,48 +1,48 @@
 -- `sig_write_call`: a number for each answer; the bytes are the call's own.
-use mathlib.Core.Path.{sym, ap, _∙_}
-use Rattle·conversions.specs.Results.{writtenResult}
-use borrow.Author.Needs.{needs}
-use Rattle·calls·proofs.proofs.sig_write_call.Statement.{statement}
-use Rattle·calls·proofs.proofs.sig_write_call.Tie as tie
+use mathlib.Core.Path.{sym, ap, ◌∙◌}
+use Rattle.conversions.specs.Results.{written_result}
+use borrow.Author.Rules.{rules}
+use Rattle.calls.proofs.sig_write_call.Statement.{statement}
+use Rattle.calls.proofs.sig_write_call.Tie as tie
 
-write-requires : tie.Need-write-requires
-write-requires c κs = search needs
+write_requires : tie.Need-write-requires
+write_requires c κs = search rules
 
-enum-told : tie.Need-enum-told
-enum-told c = search needs
+enum_told : tie.Need-enum-told
+enum_told c = search rules
 
-enum-known-r : tie.Need-enum-known-r
-enum-known-r c = search needs
+enum_known_r : tie.Need-enum-known-r
+enum_known_r c = search rules
 
-refused-requires : tie.Need-refused-requires
-refused-requires c κs = search needs
+refused_requires : tie.Need-refused-requires
+refused_requires c κs = search rules
 
-same-length : tie.Need-same-length
-same-length c = search needs
+same_length : tie.Need-same-length
+same_length c = search rules
 
 returns : tie.Need-returns
 returns c =
-    let w = c .before .before .before .before in
-    (ap writtenResult (sym (c .enum-told .given .1) ∙ w .write .ensures .0), w .write .ensures .1)
+    let w = c.before.before.before.before in
+    (ap written_result (sym c.enum_told.given.1 ∙ w.write.ensures.0), w.write.ensures.1)
 
-same-length-2 : tie.Need-same-length-2
-same-length-2 c = search needs
+same_length_2 : tie.Need-same-length-2
+same_length_2 c = search rules
 
-returns-2 : tie.Need-returns-2
-returns-2 c =
-    let g = c .before .before in
-    let w = g .before .before .before .before in
-    (search needs ∙ c .refused .ensures ∙ ap writtenResult (sym (g .r .given .1) ∙ w .write .ensures .0), w .write .ensures .1)
+returns_2 : tie.Need-returns-2
+returns_2 c =
+    let g = c.before.before in
+    let w = g.before.before.before.before in
+    (search rules ∙ c.refused.ensures ∙ ap written_result (sym g.r.given.1 ∙ w.write.ensures.0), w.write.ensures.1)
 
-pub sig-write-call-spec : {M : Type 1} → statement M
-sig-write-call-spec =
+pub sig_write_call_spec : {M : Type 1} → statement M
+sig_write_call_spec =
     tie.close
     (tie.spec
-    write-requires
-    enum-told
-    enum-known-r
-    refused-requires
-    same-length
+    write_requires
+    enum_told
+    enum_known_r
+    refused_requires
+    same_length
     returns
-    same-length-2
-    returns-2)
+    same_length_2
+    returns_2)

@@ -1,37 +1,36 @@
 -- `ht_carrier` gathers its settings and calls on.
-use denote.Ref.{now}
-use mathlib.Core.Path.{_∙_, ap}
+use mathlib.Core.Path.{◌∙◌, ap}
 use lib.ListN.{length}
-use mir.Facts.{toZ-ofZ}
-use Rattle·settings.specs.declared.settings.RawSettings.{RawSettings}
-use Rattle·settings.specs.Settings.{checkOf}
-use Rattle·query.specs.declared.query.QueryAnswer.{QueryAnswer}
-use Rattle·query.specs.Query.{queryOf}
-use Rattle·conversions.specs.Results.{carrierResult, carrierInto}
-use borrow.Author.Needs.{needs}
-use Rattle·capi·proofs.proofs.ht_carrier.Statement.{statement}
-use Rattle·capi·proofs.proofs.ht_carrier.Tie as tie
+use mir.Facts.{to_z-of_z}
+use Rattle.settings.specs.declared.settings.RawSettings.{RawSettings}
+use Rattle.settings.specs.Settings.{check_of}
+use Rattle.query.specs.declared.query.QueryAnswer.{QueryAnswer}
+use Rattle.query.specs.Query.{query_of}
+use Rattle.conversions.specs.Results.{carrier_result, carrier_into}
+use borrow.Author.Rules.{rules}
+use Rattle.capi.proofs.ht_carrier.Statement.{statement}
+use Rattle.capi.proofs.ht_carrier.Tie as tie
 
-raw-settings-requires : tie.Need-raw-settings-requires
-raw-settings-requires c κs = search needs
+raw_settings_requires : tie.Need-raw-settings-requires
+raw_settings_requires c κs = search rules
 
-carrier-call-requires : tie.Need-carrier-call-requires
-carrier-call-requires c κs = search needs
+carrier_call_requires : tie.Need-carrier-call-requires
+carrier_call_requires c κs = search rules
 
-same-length : tie.Need-same-length
-same-length c = search needs
+same_length : tie.Need-same-length
+same_length c = search rules
 
 returns : tie.Need-returns
 returns c =
-    let w = c .before .before in
-    let r = w .before .before in
-    let st = r .before .before .before in
-    let a = st .args in
-    let e = ap (queryOf (checkOf (r .raw-settings .result)) (now (a .payload)) (a .symbol) (a .stream)) (toZ-ofZ (st .fits .subcarrier))
-    ∙ ap (λ (s : RawSettings). queryOf (checkOf s) (now (a .payload)) (a .symbol) (a .stream) (a .subcarrier)) (r .raw-settings .ensures) in (
-      search needs ∙ w .carrier-call .ensures .0 ∙ ap (λ (q : QueryAnswer). carrierResult q (length (now (a .out)))) e,
-      w .carrier-call .ensures .1 ∙ ap (λ (q : QueryAnswer). carrierInto q (now (a .out))) e,
+    let w = c.before.before in
+    let r = w.before.before in
+    let st = r.before.before.before in
+    let a = st.args in
+    let e = ap (query_of (check_of r.raw-settings.result) a.payload.now a.symbol a.stream) (to_z-of_z st.ranges.subcarrier)
+    ∙ ap (λ (s : RawSettings). query_of (check_of s) a.payload.now a.symbol a.stream a.subcarrier) r.raw-settings.ensures in (
+      search rules ∙ w.carrier-call.ensures.0 ∙ ap (λ (q : QueryAnswer). carrier_result q (length a.out.now)) e,
+      w.carrier-call.ensures.1 ∙ ap (λ (q : QueryAnswer). carrier_into q a.out.now) e,
     )
 
-pub ht-carrier-spec : {M : Type 1} → statement M
-ht-carrier-spec = tie.close (tie.spec raw-settings-requires carrier-call-requires same-length returns)
+pub ht_carrier_spec : {M : Type 1} → statement M
+ht_carrier_spec = tie.close (tie.spec raw_settings_requires carrier_call_requires same_length returns)

@@ -1,21 +1,21 @@
 -- `ht_reader_start` gathers its settings and calls on.
-use mathlib.Core.Path.{_∙_, ap}
-use Rattle·reader_state.specs.declared.state.OpenSettings.{OpenSettings}
-use Rattle·reader_state.specs.State.{startOf}
-use Rattle·reader_numbers.specs.Numbers.{startResult}
-use borrow.Author.Needs.{needs}
-use Rattle·capi·proofs.proofs.ht_reader_start.Statement.{statement}
-use Rattle·capi·proofs.proofs.ht_reader_start.Tie as tie
+use mathlib.Core.Path.{◌∙◌, ap}
+use Rattle.reader_state.specs.declared.state.OpenSettings.{OpenSettings}
+use Rattle.reader_state.specs.State.{start_of}
+use Rattle.reader_numbers.specs.Numbers.{start_result}
+use borrow.Author.Rules.{rules}
+use Rattle.capi.proofs.ht_reader_start.Statement.{statement}
+use Rattle.capi.proofs.ht_reader_start.Tie as tie
 
-open-settings-requires : tie.Need-open-settings-requires
-open-settings-requires c κs = search needs
+open_settings_requires : tie.Need-open-settings-requires
+open_settings_requires c κs = search rules
 
-start-call-requires : tie.Need-start-call-requires
-start-call-requires c κs = search needs
+start_call_requires : tie.Need-start-call-requires
+start_call_requires c κs = search rules
 
 returns : tie.Need-returns
 returns c =
-    search needs ∙ c .start-call .ensures ∙ ap (λ (o : OpenSettings). startResult (startOf o)) (c .before .open-settings .ensures)
+    search rules ∙ c.start-call.ensures ∙ ap (λ (o : OpenSettings). start_result (start_of o)) c.before.open-settings.ensures
 
-pub ht-reader-start-spec : {M : Type 1} → statement M
-ht-reader-start-spec = tie.close (tie.spec open-settings-requires start-call-requires returns)
+pub ht_reader_start_spec : {M : Type 1} → statement M
+ht_reader_start_spec = tie.close (tie.spec open_settings_requires start_call_requires returns)

@@ -1,32 +1,31 @@
 -- `ht_reader_step` gathers its settings and calls on.
-use denote.Ref.{now}
-use mathlib.Core.Path.{_∙_, ap}
+use mathlib.Core.Path.{◌∙◌, ap}
 use lib.IntN.{pos}
 use lib.ListN.{length}
-use Rattle·reader_state.specs.declared.state.OpenSettings.{OpenSettings}
-use Rattle·reader_numbers.specs.Numbers.{stepResult, stepResultInto}
-use borrow.Author.Needs.{needs}
-use Rattle·capi·proofs.proofs.ht_reader_step.Statement.{statement}
-use Rattle·capi·proofs.proofs.ht_reader_step.Tie as tie
+use Rattle.reader_state.specs.declared.state.OpenSettings.{OpenSettings}
+use Rattle.reader_numbers.specs.Numbers.{step_result, step_result_into}
+use borrow.Author.Rules.{rules}
+use Rattle.capi.proofs.ht_reader_step.Statement.{statement}
+use Rattle.capi.proofs.ht_reader_step.Tie as tie
 
-open-settings-requires : tie.Need-open-settings-requires
-open-settings-requires c κs = search needs
+open_settings_requires : tie.Need-open-settings-requires
+open_settings_requires c κs = search rules
 
-step-call-requires : tie.Need-step-call-requires
-step-call-requires c κs = search needs
+step_call_requires : tie.Need-step-call-requires
+step_call_requires c κs = search rules
 
-same-length : tie.Need-same-length
-same-length c = search needs
+same_length : tie.Need-same-length
+same_length c = search rules
 
 returns : tie.Need-returns
 returns c =
-    let w = c .before .before in
-    let r = w .before .before in
-    let a = r .before .before .before .args in (
-      search needs ∙ w .step-call .ensures .0
-          ∙ ap (λ (o : OpenSettings). pos (stepResult o (a .state) (now (a .points)) (length (now (a .payload))))) (r .open-settings .ensures),
-      w .step-call .ensures .1 ∙ ap (λ (o : OpenSettings). stepResultInto o (a .state) (now (a .points)) (now (a .payload))) (r .open-settings .ensures),
+    let w = c.before.before in
+    let r = w.before.before in
+    let a = r.before.before.before.args in (
+      search rules ∙ w.step_call.ensures.0
+          ∙ ap (λ (o : OpenSettings). pos (step_result o a.state a.points.now (length a.payload.now))) r.open-settings.ensures,
+      w.step_call.ensures.1 ∙ ap (λ (o : OpenSettings). step_result_into o a.state a.points.now a.payload.now) r.open-settings.ensures,
     )
 
-pub ht-reader-step-spec : {M : Type 1} → statement M
-ht-reader-step-spec = tie.close (tie.spec open-settings-requires step-call-requires same-length returns)
+pub ht_reader_step_spec : {M : Type 1} → statement M
+ht_reader_step_spec = tie.close (tie.spec open_settings_requires step_call_requires same_length returns)

@@ -1,84 +1,84 @@
 -- `fields_number` adds the fields up, each at its place.
 use native.Mathlib.Omega.{arith}
-use Rattle·conversions·specs.specs.Results.{fieldsNumber}
-use borrow.Author.Needs.{needs}
-use Rattle·conversions·proofs.proofs.fields_number.Statement.{statement}
-use Rattle·conversions·proofs.proofs.fields_number.Tie as tie
+use Rattle.conversions.specs.Results.{fields_number}
+use borrow.Author.Rules.{rules}
+use Rattle.conversions.proofs.fields_number.Statement.{statement}
+use Rattle.conversions.proofs.fields_number.Tie as tie
 
-one-requires : tie.Need-one-requires
-one-requires c κs = search needs
+one_requires : tie.Need-one-requires
+one_requires c κs = search rules
 
-one-requires-2 : tie.Need-one-requires-2
-one-requires-2 c κs = search needs
+one_requires_2 : tie.Need-one-requires-2
+one_requires_2 c κs = search rules
 
-mul-flags : tie.Need-mul-flags
-mul-flags c = search needs
+mul_flags : tie.Need-overflow-mul-flags
+mul_flags c = search rules
 
-add-flags : tie.Need-add-flags
-add-flags c = search needs
+add_flags : tie.Need-overflow-add-flags
+add_flags c = search rules
 
-one-requires-3 : tie.Need-one-requires-3
-one-requires-3 c κs = search needs
+one_requires_3 : tie.Need-one-requires-3
+one_requires_3 c κs = search rules
 
-mul-flags-2 : tie.Need-mul-flags-2
-mul-flags-2 c = search needs
+mul_flags_2 : tie.Need-overflow-mul-flags-2
+mul_flags_2 c = search rules
 
-add-flags-2 : tie.Need-add-flags-2
-add-flags-2 c = search needs
+add_flags_2 : tie.Need-overflow-add-flags-2
+add_flags_2 c = search rules
 
-one-requires-4 : tie.Need-one-requires-4
-one-requires-4 c κs = search needs
+one_requires_4 : tie.Need-one-requires-4
+one_requires_4 c κs = search rules
 
-mul-flags-3 : tie.Need-mul-flags-3
-mul-flags-3 c = search needs
+mul_flags_3 : tie.Need-overflow-mul-flags-3
+mul_flags_3 c = search rules
 
-add-flags-3 : tie.Need-add-flags-3
-add-flags-3 c = search needs
+add_flags_3 : tie.Need-overflow-add-flags-3
+add_flags_3 c = search rules
 
-one-requires-5 : tie.Need-one-requires-5
-one-requires-5 c κs = search needs
+one_requires_5 : tie.Need-one-requires-5
+one_requires_5 c κs = search rules
 
-mul-result : tie.Need-mul-result
-mul-result c = search needs
+mul_result : tie.Need-overflow-mul-result
+mul_result c = search rules
 
-add-result : tie.Need-add-result
-add-result c = search needs
+add_result : tie.Need-overflow-add-result
+add_result c = search rules
 
-mul-result-2 : tie.Need-mul-result-2
-mul-result-2 c = search needs
+mul_result_2 : tie.Need-overflow-mul-result-2
+mul_result_2 c = search rules
 
-add-result-2 : tie.Need-add-result-2
-add-result-2 c = search needs
+add_result_2 : tie.Need-overflow-add-result-2
+add_result_2 c = search rules
 
-mul-result-3 : tie.Need-mul-result-3
-mul-result-3 c = search needs
+mul_result_3 : tie.Need-overflow-mul-result-3
+mul_result_3 c = search rules
 
-add-result-3 : tie.Need-add-result-3
-add-result-3 c = search needs
+add_result_3 : tie.Need-overflow-add-result-3
+add_result_3 c = search rules
 
 returns : tie.Need-returns
-unfolding fieldsNumber
+unfolding fields_number
 returns c = (omega arith, omega arith)
 
-pub fields-number-spec : {M : Type 1} → statement M
-fields-number-spec =
+pub fields_number_spec : {M : Type 1} → statement M
+fields_number_spec =
     tie.close
     (tie.spec
-    one-requires
-    one-requires-2
-    mul-flags
-    add-flags
-    one-requires-3
-    mul-flags-2
-    add-flags-2
-    one-requires-4
-    mul-flags-3
-    add-flags-3
-    one-requires-5
-    mul-result
-    add-result
-    mul-result-2
-    add-result-2
-    mul-result-3
-    add-result-3
+    one_requires
+    one_requires_2
+    mul_flags
+    add_flags
+    one_requires_3
+    mul_flags_2
+    add_flags_2
+    one_requires_4
+    mul_flags_3
+    add_flags_3
+    one_requires_5
+    mul_result
+    add_result
+    mul_result_2
+    add_result_2
+    mul_result_3
+    add_result_3
     returns)

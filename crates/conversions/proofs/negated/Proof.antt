@@ -1,17 +1,17 @@
 -- `negated` is small enough for a number with a sign.
-use Rattle·conversions·proofs.proofs.Minus.{minus-fits, minus-back}
-use borrow.Author.Needs.{needs}
-use Rattle·conversions·proofs.proofs.negated.Statement.{statement}
-use Rattle·conversions·proofs.proofs.negated.Tie as tie
+use Rattle.conversions.proofs.Minus.{minus_fits, minus_back}
+use borrow.Author.Rules.{rules}
+use Rattle.conversions.proofs.negated.Statement.{statement}
+use Rattle.conversions.proofs.negated.Tie as tie
 
 returns : tie.Need-returns
-returns c = minus-back (c .args .n) (c .pre)
+returns c = minus_back c.args.n c.requires
 
-cast-result : tie.Need-cast-result
-cast-result c = search needs
+cast_result : tie.Need-overflow-cast-result
+cast_result c = search rules
 
-sub-result : tie.Need-sub-result
-sub-result c = minus-fits (c .args .n) (c .pre)
+sub_result : tie.Need-overflow-sub-result
+sub_result c = minus_fits c.args.n c.requires
 
-pub negated-spec : {M : Type 1} → statement M
-negated-spec = tie.close (tie.spec cast-result sub-result returns)
+pub negated_spec : {M : Type 1} → statement M
+negated_spec = tie.close (tie.spec cast_result sub_result returns)

@@ -1,70 +1,69 @@
 -- `put_carried` goes by what is carried.
-use mathlib.Core.Path.{_∙_, sym, ap}
+use mathlib.Core.Path.{◌∙◌, sym, ap}
 use lib.IntN.{pos}
-use denote.Ref.{now}
-use Rattle·query.specs.declared.query.Carried.{Carried}
-use Rattle·conversions·specs.specs.Results.{carriedNumber, carriedInto}
-use Rattle·conversions·proofs.proofs.Put.{one-put, two-put}
-use borrow.Author.Needs.{needs}
-use Rattle·conversions·proofs.proofs.put_carried.Statement.{statement}
-use Rattle·conversions·proofs.proofs.put_carried.Tie as tie
+use Rattle.query.specs.declared.query.Carried.{Carried}
+use Rattle.conversions.specs.Results.{carried_number, carried_into}
+use Rattle.conversions.proofs.Put.{one_put, two_put}
+use borrow.Author.Rules.{rules}
+use Rattle.conversions.proofs.put_carried.Statement.{statement}
+use Rattle.conversions.proofs.put_carried.Tie as tie
 
 returns : tie.Need-returns
 returns c =
-    let a = c .before .before in
-    let e = sym (c .enum-told .given .1) in
-    (ap (λ (k : Carried). pos (carriedNumber k)) e, ap (λ (k : Carried). carriedInto k (now (a .args .out))) e)
+    let a = c.before.before in
+    let e = sym c.enum_told.given.1 in
+    (ap (λ (k : Carried). pos (carried_number k)) e, ap (λ (k : Carried). carried_into k a.args.out.now) e)
 
-returns-2 : tie.Need-returns-2
-returns-2 c =
-    let g = c .before in
-    let a = g .before .before in
-    let e = sym (g .carried .given .1) in
-    (ap (λ (k : Carried). pos (carriedNumber k)) e, one-put (now (a .args .out)) _ (a .pre) ∙ ap (λ (k : Carried). carriedInto k (now (a .args .out))) e)
+returns_2 : tie.Need-returns-2
+returns_2 c =
+    let g = c.before in
+    let a = g.before.before in
+    let e = sym g.carried.given.1 in
+    (ap (λ (k : Carried). pos (carried_number k)) e, one_put a.args.out.now _ a.requires ∙ ap (λ (k : Carried). carried_into k a.args.out.now) e)
 
-returns-3 : tie.Need-returns-3
-returns-3 c =
-    let g = c .before in
-    let a = g .before .before in
-    let e = sym (g .carried2 .given .1) in
-    (ap (λ (k : Carried). pos (carriedNumber k)) e, two-put (now (a .args .out)) _ _ (a .pre) ∙ ap (λ (k : Carried). carriedInto k (now (a .args .out))) e)
+returns_3 : tie.Need-returns-3
+returns_3 c =
+    let g = c.before in
+    let a = g.before.before in
+    let e = sym g.carried2.given.1 in
+    (ap (λ (k : Carried). pos (carried_number k)) e, two_put a.args.out.now _ _ a.requires ∙ ap (λ (k : Carried). carried_into k a.args.out.now) e)
 
-enum-told : tie.Need-enum-told
-enum-told c = search needs
+enum_told : tie.Need-enum-told
+enum_told c = search rules
 
-enum-known-carried : tie.Need-enum-known-carried
-enum-known-carried c = search needs
+enum_known_carried : tie.Need-enum-known-carried
+enum_known_carried c = search rules
 
-slice-write-out : tie.Need-slice-write-out
-slice-write-out c = search needs
+slice_write_out : tie.Need-slice-write-out
+slice_write_out c = search rules
 
-enum-known-carried-2 : tie.Need-enum-known-carried-2
-enum-known-carried-2 c = search needs
+enum_known_carried_2 : tie.Need-enum-known-carried-2
+enum_known_carried_2 c = search rules
 
-slice-write-out-2 : tie.Need-slice-write-out-2
-slice-write-out-2 c = search needs
+slice_write_out_2 : tie.Need-slice-write-out-2
+slice_write_out_2 c = search rules
 
-slice-write-out-3 : tie.Need-slice-write-out-3
-slice-write-out-3 c = search needs
+slice_write_out_3 : tie.Need-slice-write-out-3
+slice_write_out_3 c = search rules
 
-same-length : tie.Need-same-length
-same-length c = search needs
+same_length : tie.Need-same-length
+same_length c = search rules
 
-same-length-2 : tie.Need-same-length-2
-same-length-2 c = search needs
+same_length_2 : tie.Need-same-length-2
+same_length_2 c = search rules
 
-pub put-carried-spec : {M : Type 1} → statement M
-put-carried-spec =
+pub put_carried_spec : {M : Type 1} → statement M
+put_carried_spec =
     tie.close
     (tie.spec
-    enum-told
-    enum-known-carried
-    slice-write-out
-    enum-known-carried-2
-    slice-write-out-2
-    slice-write-out-3
+    enum_told
+    enum_known_carried
+    slice_write_out
+    enum_known_carried_2
+    slice_write_out_2
+    slice_write_out_3
     returns
-    same-length
-    returns-2
-    same-length-2
-    returns-3)
+    same_length
+    returns_2
+    same_length_2
+    returns_3)

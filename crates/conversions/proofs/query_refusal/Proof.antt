@@ -1,21 +1,21 @@
 -- `query_refusal`: an answer that carries something is ruled out.
 use mathlib.Core.Path.{subst}
-use Rattle·conversions·specs.specs.Results.{IsRefusedQuery}
-use borrow.Author.Needs.{needs}
-use Rattle·conversions·proofs.proofs.query_refusal.Statement.{statement}
-use Rattle·conversions·proofs.proofs.query_refusal.Tie as tie
+use Rattle.conversions.specs.Results.{IsRefusedQuery}
+use borrow.Author.Rules.{rules}
+use Rattle.conversions.proofs.query_refusal.Statement.{statement}
+use Rattle.conversions.proofs.query_refusal.Tie as tie
 
-enum-known-answer : tie.Need-enum-known-answer
-enum-known-answer c = search needs
+enum_known_answer : tie.Need-enum-known-answer
+enum_known_answer c = search rules
 
-enum-told : tie.Need-enum-told
-enum-told c = search needs
+enum_told : tie.Need-enum-told
+enum_told c = search rules
 
 returns : tie.Need-returns
-returns c = search needs
+returns c = search rules
 
-returns-2 : tie.Need-returns-2
-returns-2 c = absurd (subst IsRefusedQuery (c .enum-told .given .1) (c .before .before .pre))
+returns_2 : tie.Need-returns-2
+returns_2 c = absurd (subst IsRefusedQuery c.enum_told.given.1 c.before.before.requires)
 
-pub query-refusal-spec : {M : Type 1} → statement M
-query-refusal-spec = tie.close (tie.spec enum-known-answer enum-told returns returns-2)
+pub query_refusal_spec : {M : Type 1} → statement M
+query_refusal_spec = tie.close (tie.spec enum_known_answer enum_told returns returns_2)

@@ -1,20 +1,20 @@
 -- `refused` negates a refusal's number, which is small.
-use mathlib.Core.Path.{_∙_, ap, subst, sym}
-use Prim.Native.Nat.{ℕ, _<_}
-use Rattle·laws.specs.Integers.{minus}
-use Rattle·conversions·proofs.proofs.Minus.{number-small}
-use borrow.Author.Needs.{needs}
-use Rattle·conversions·proofs.proofs.refused.Statement.{statement}
-use Rattle·conversions·proofs.proofs.refused.Tie as tie
+use mathlib.Core.Path.{◌∙◌, ap, subst, sym}
+use Prim.Native.Nat.{ℕ, ◌<◌}
+use Rattle.laws.specs.Integers.{minus}
+use Rattle.conversions.proofs.Minus.{number_small}
+use borrow.Author.Rules.{rules}
+use Rattle.conversions.proofs.refused.Statement.{statement}
+use Rattle.conversions.proofs.refused.Tie as tie
 
-number-requires : tie.Need-number-requires
-number-requires c κs = search needs
+number_requires : tie.Need-number-requires
+number_requires c κs = search rules
 
-negated-requires : tie.Need-negated-requires
-negated-requires c κs = subst (λ (n : ℕ). n < 16) (sym (c .number .ensures)) (number-small (c .before .args .r))
+negated_requires : tie.Need-negated-requires
+negated_requires c κs = subst (λ (n : ℕ). n < 16) (sym c.number.ensures) (number_small c.before.args.r)
 
 returns : tie.Need-returns
-returns c = search needs ∙ c .negated .ensures ∙ ap minus (c .before .number .ensures)
+returns c = search rules ∙ c.negated.ensures ∙ ap minus c.before.number.ensures
 
-pub refused-spec : {M : Type 1} → statement M
-refused-spec = tie.close (tie.spec number-requires negated-requires returns)
+pub refused_spec : {M : Type 1} → statement M
+refused_spec = tie.close (tie.spec number_requires negated_requires returns)

@@ -1,66 +1,66 @@
 -- `print_bits` prints one digit a turn.
-use Prim.Native.Nat.{_-_, _≤_}
-use borrow.Author.Needs.{needs}
-use Rattle·published·proofs.proofs.print_bits.Statement.{statement}
-use Rattle·published·proofs.proofs.print_bits.Tie as tie
+use Prim.Native.Nat.{◌-◌, ◌≤◌}
+use borrow.Author.Rules.{rules}
+use Rattle.published.proofs.print_bits.Statement.{statement}
+use Rattle.published.proofs.print_bits.Tie as tie
 
-abbrev Inv-loop : tie.InvT-loop
-Inv-loop bits from count i₀ t5 i = i ≤ count
+abbrev invariant-loop : tie.invariant-loop
+invariant-loop bits from count i₀ t5 i = i ≤ count
 
-abbrev μ-loop : tie.MeasureT-loop
-μ-loop bits from count i₀ t5 i = count - i
+abbrev decreases_loop : tie.decreases-loop
+decreases_loop bits from count i₀ t5 i = count - i
 
-loop-holds : tie.Need-loop-holds Inv-loop μ-loop
-loop-holds c = search needs
+loop_holds : tie.Need-loop-init invariant-loop decreases_loop
+loop_holds c = search rules
 
-add-digit : tie.Need-add-digit Inv-loop μ-loop
-add-digit c = search needs
+add_digit : tie.Need-overflow-add-digit invariant-loop decreases_loop
+add_digit c = search rules
 
-shared-slice-read-digit : tie.Need-shared-slice-read-digit Inv-loop μ-loop
-shared-slice-read-digit c = search needs
+shared_slice_read_digit : tie.Need-shared-slice-read-digit invariant-loop decreases_loop
+shared_slice_read_digit c = search rules
 
-digit-requires : tie.Need-digit-requires Inv-loop μ-loop
-digit-requires c κs = search needs
+digit_requires : tie.Need-digit-requires invariant-loop decreases_loop
+digit_requires c κs = search rules
 
-slice-aggregate-write-all : tie.Need-slice-aggregate-write-all Inv-loop μ-loop
-slice-aggregate-write-all c = search needs
+slice_aggregate_write_all : tie.Need-slice-aggregate-write-all invariant-loop decreases_loop
+slice_aggregate_write_all c = search rules
 
-write-all-requires : tie.Need-write-all-requires Inv-loop μ-loop
-write-all-requires c κs = search needs
+write_all_requires : tie.Need-write-all-requires invariant-loop decreases_loop
+write_all_requires c κs = search rules
 
-add-i : tie.Need-add-i Inv-loop μ-loop
-add-i c = search needs
+add_i : tie.Need-overflow-add-i invariant-loop decreases_loop
+add_i c = search rules
 
-loop-less : tie.Need-loop-less Inv-loop μ-loop
-loop-less c = search needs
+loop_less : tie.Need-loop-smaller invariant-loop decreases_loop
+loop_less c = search rules
 
-loop-again : tie.Need-loop-again Inv-loop μ-loop
-loop-again c = search needs
+loop_again : tie.Need-loop-preserved invariant-loop decreases_loop
+loop_again c = search rules
 
-slice-aggregate-write-all-2 : tie.Need-slice-aggregate-write-all-2 Inv-loop μ-loop
-slice-aggregate-write-all-2 c = search needs
+slice_aggregate_write_all_2 : tie.Need-slice-aggregate-write-all-2 invariant-loop decreases_loop
+slice_aggregate_write_all_2 c = search rules
 
-write-all-requires-2 : tie.Need-write-all-requires-2 Inv-loop μ-loop
-write-all-requires-2 c κs = search needs
+write_all_requires_2 : tie.Need-write-all-requires-2 invariant-loop decreases_loop
+write_all_requires_2 c κs = search rules
 
-returns : tie.Need-returns Inv-loop μ-loop
-returns c = search needs
+returns : tie.Need-returns invariant-loop decreases_loop
+returns c = search rules
 
-pub print-bits-spec : {M : Type 1} → statement M
-print-bits-spec =
+pub print_bits_spec : {M : Type 1} → statement M
+print_bits_spec =
     tie.close
     (tie.spec
-    Inv-loop
-    μ-loop
-    loop-holds
-    add-digit
-    shared-slice-read-digit
-    digit-requires
-    slice-aggregate-write-all
-    write-all-requires
-    add-i
-    loop-less
-    loop-again
-    slice-aggregate-write-all-2
-    write-all-requires-2
+    invariant-loop
+    decreases_loop
+    loop_holds
+    add_digit
+    shared_slice_read_digit
+    digit_requires
+    slice_aggregate_write_all
+    write_all_requires
+    add_i
+    loop_less
+    loop_again
+    slice_aggregate_write_all_2
+    write_all_requires_2
     returns)

@@ -1,45 +1,45 @@
 -- `stepped_number` adds number, seed and state up, each at its place.
 use native.Mathlib.Omega.{arith}
-use Rattle·reader_numbers·specs.specs.Numbers.{steppedNumber}
-use borrow.Author.Needs.{needs}
-use Rattle·reader_numbers·proofs.proofs.stepped_number.Statement.{statement}
-use Rattle·reader_numbers·proofs.proofs.stepped_number.Tie as tie
+use Rattle.reader_numbers.specs.Numbers.{stepped_number}
+use borrow.Author.Rules.{rules}
+use Rattle.reader_numbers.proofs.stepped_number.Statement.{statement}
+use Rattle.reader_numbers.proofs.stepped_number.Tie as tie
 
-answer-number-requires : tie.Need-answer-number-requires
-answer-number-requires c κs = search needs
+answer_number_requires : tie.Need-answer-number-requires
+answer_number_requires c κs = search rules
 
-answer-seed-requires : tie.Need-answer-seed-requires
-answer-seed-requires c κs = search needs
+answer_seed_requires : tie.Need-answer-seed-requires
+answer_seed_requires c κs = search rules
 
-mul-result : tie.Need-mul-result
-mul-result c = search needs
+mul_result : tie.Need-overflow-mul-result
+mul_result c = search rules
 
-add-result : tie.Need-add-result
-add-result c = search needs
+add_result : tie.Need-overflow-add-result
+add_result c = search rules
 
-state-number-requires : tie.Need-state-number-requires
-state-number-requires c κs = search needs
+state_number_requires : tie.Need-state-number-requires
+state_number_requires c κs = search rules
 
-mul-result-2 : tie.Need-mul-result-2
-mul-result-2 c = search needs
+mul_result_2 : tie.Need-overflow-mul-result-2
+mul_result_2 c = search rules
 
-add-result-2 : tie.Need-add-result-2
-add-result-2 c = search needs
+add_result_2 : tie.Need-overflow-add-result-2
+add_result_2 c = search rules
 
 returns : tie.Need-returns
-unfolding steppedNumber
+unfolding stepped_number
 returns c =
-    omega (arith, c .before .before .answer-number .ensures, c .before .answer-seed .ensures, c .state-number .ensures)
+    omega (arith, c.before.before.answer-number.ensures, c.before.answer-seed.ensures, c.state-number.ensures)
 
-pub stepped-number-spec : {M : Type 1} → statement M
-stepped-number-spec =
+pub stepped_number_spec : {M : Type 1} → statement M
+stepped_number_spec =
     tie.close
     (tie.spec
-    answer-number-requires
-    answer-seed-requires
-    mul-result
-    add-result
-    state-number-requires
-    mul-result-2
-    add-result-2
+    answer_number_requires
+    answer_seed_requires
+    mul_result
+    add_result
+    state_number_requires
+    mul_result_2
+    add_result_2
     returns)

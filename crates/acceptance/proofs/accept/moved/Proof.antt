@@ -1,32 +1,32 @@
 -- `moved` sets each field of the state as the definition does.
 use native.Mathlib.Omega.{arith}
-use Rattle·reader_state.proofs.StateLaws.{symbol-few}
-use Rattle·acceptance·proofs.proofs.AcceptedLaws.{moved-by}
-use borrow.Author.Needs.{needs}
-use Rattle·acceptance·proofs.proofs.accept.moved.Statement.{statement}
-use Rattle·acceptance·proofs.proofs.accept.moved.Tie as tie
+use Rattle.reader_state.proofs.StateLaws.{symbol_few}
+use Rattle.acceptance.proofs.AcceptedLaws.{moved_by}
+use borrow.Author.Rules.{rules}
+use Rattle.acceptance.proofs.accept.moved.Statement.{statement}
+use Rattle.acceptance.proofs.accept.moved.Tie as tie
 
-plan-of-requires : tie.Need-plan-of-requires
-plan-of-requires c κs = search needs
+plan_of_requires : tie.Need-plan-of-requires
+plan_of_requires c κs = search rules
 
-add-next : tie.Need-add-next
-add-next c =
-    let a = c .before .before .before in
-    omega (arith, symbol-few (a .args .s) (a .pre .right) _ (a .pre .below-count))
+add_next : tie.Need-overflow-add-next
+add_next c =
+    let a = c.before.before.before in
+    omega (arith, symbol_few a.args.s a.requires.right _ a.requires.below_count)
 
-symbols-of-requires : tie.Need-symbols-of-requires
-symbols-of-requires c κs = search needs
+symbols_of_requires : tie.Need-symbols-of-requires
+symbols_of_requires c κs = search rules
 
-jump-requires : tie.Need-jump-requires
-jump-requires c κs = search needs
+jump_requires : tie.Need-jump-requires
+jump_requires c κs = search rules
 
 returns : tie.Need-returns
 returns c =
-    let y = c .before in
-    let p = y .before .before .before in
-    let a = p .before in
-    moved-by (a .args .s) (p .plan-of .result) (p .plan-of .ensures) (a .args .reader) (a .args .histories) _ (a .args .scrambler) _ (a .args .part) (y .symbols-of .ensures) (c .jump .ensures)
+    let y = c.before in
+    let p = y.before.before.before in
+    let a = p.before in
+    moved_by a.args.s p.plan-of.result p.plan-of.ensures a.args.reader a.args.histories _ a.args.scrambler _ a.args.part y.symbols-of.ensures c.jump.ensures
 
-pub moved-spec : {M : Type 1} → statement M
-moved-spec =
-    tie.close (tie.spec plan-of-requires add-next symbols-of-requires jump-requires returns)
+pub moved_spec : {M : Type 1} → statement M
+moved_spec =
+    tie.close (tie.spec plan_of_requires add_next symbols_of_requires jump_requires returns)

@@ -1,39 +1,38 @@
 -- `put_bytes` asks for the payload's bytes by the numbers of the settings.
-use denote.Ref.{now}
 use native.Mathlib.Omega.{arith}
-use Rattle·reader_state.proofs.StateLaws.{bits-near, symbol-few}
-use Rattle·acceptance·proofs.proofs.AcceptedLaws.{bytes-by, left-by}
-use borrow.Author.Needs.{needs}
-use Rattle·acceptance·proofs.proofs.accept.put_bytes.Statement.{statement}
-use Rattle·acceptance·proofs.proofs.accept.put_bytes.Tie as tie
+use Rattle.reader_state.proofs.StateLaws.{bits_near, symbol_few}
+use Rattle.acceptance.proofs.AcceptedLaws.{bytes_by, left_by}
+use borrow.Author.Rules.{rules}
+use Rattle.acceptance.proofs.accept.put_bytes.Statement.{statement}
+use Rattle.acceptance.proofs.accept.put_bytes.Tie as tie
 
-plan-of-requires : tie.Need-plan-of-requires
-plan-of-requires c κs = search needs
+plan_of_requires : tie.Need-plan-of-requires
+plan_of_requires c κs = search rules
 
-mul-put-payload : tie.Need-mul-put-payload
-mul-put-payload c =
-    let p = c .before .before in
-    let a = p .before .before .before in
-    omega (arith, bits-near (a .args .s) (p .plan-of .result) (p .plan-of .ensures) (a .pre .right) (a .args .symbol) (symbol-few (a .args .s) (a .pre .right) _ (a .pre .below-count)))
+mul_put_payload : tie.Need-overflow-mul-put-payload
+mul_put_payload c =
+    let p = c.before.before in
+    let a = p.before.before.before in
+    omega (arith, bits_near a.args.s p.plan-of.result p.plan-of.ensures a.requires.right a.args.symbol (symbol_few a.args.s a.requires.right _ a.requires.below_count))
 
-put-payload-requires : tie.Need-put-payload-requires
-put-payload-requires c κs =
-    let p = c .before .before in
-    let a = p .before .before .before in
-    rw (p .plan-of .ensures) (a .pre .asked)
+put_payload_requires : tie.Need-put-payload-requires
+put_payload_requires c κs =
+    let p = c.before.before in
+    let a = p.before.before.before in
+    rw p.plan-of.ensures a.requires.asked
 
-same-length : tie.Need-same-length
-same-length c = search needs
+same_length : tie.Need-same-length
+same_length c = search rules
 
 returns : tie.Need-returns
 returns c =
-    let q = c .before .before in
-    let p = q .before .before .before in
-    let a = p .before .before .before in (
-      bytes-by (a .args .s) (p .plan-of .result) (p .plan-of .ensures) (a .args .symbol) (a .args .part) (now (a .args .plain)) (now (a .args .payload)) _ (a .pre .asked .whole-payload) (q .put-payload .ensures .0),
-      left-by (a .args .s) (p .plan-of .result) (p .plan-of .ensures) (a .args .symbol) (a .args .part) (now (a .args .plain)) _ (q .put-payload .ensures .1),
+    let q = c.before.before in
+    let p = q.before.before.before in
+    let a = p.before.before.before in (
+      bytes_by a.args.s p.plan-of.result p.plan-of.ensures a.args.symbol a.args.part a.args.plain.now a.args.payload.now _ a.requires.asked.whole_payload q.put_payload.ensures.0,
+      left_by a.args.s p.plan-of.result p.plan-of.ensures a.args.symbol a.args.part a.args.plain.now _ q.put_payload.ensures.1,
     )
 
-pub put-bytes-spec : {M : Type 1} → statement M
-put-bytes-spec =
-    tie.close (tie.spec plan-of-requires mul-put-payload put-payload-requires same-length returns)
+pub put_bytes_spec : {M : Type 1} → statement M
+put_bytes_spec =
+    tie.close (tie.spec plan_of_requires mul_put_payload put_payload_requires same_length returns)

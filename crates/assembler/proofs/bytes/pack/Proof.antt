@@ -1,107 +1,106 @@
--- `bytes::pack` meets its contract: two nibbles are the bitsNumber byte.
-use lib.ListN.{getD}
-use Prim.Native.Nat.{_+_}
-use denote.Ref.{now}
-use Rattle·assembler·proofs.proofs.Packing.{packed-eight}
-use borrow.Author.Needs.{needs}
-use Rattle·assembler·proofs.proofs.bytes.pack.Statement.{statement}
-use Rattle·assembler·proofs.proofs.bytes.pack.Tie as tie
+-- `bytes::pack` meets its contract: two nibbles are the bits_number byte.
+use lib.ListN.{get_or}
+use Prim.Native.Nat.{◌+◌}
+use Rattle.assembler.proofs.Packing.{packed_eight}
+use borrow.Author.Rules.{rules}
+use Rattle.assembler.proofs.bytes.pack.Statement.{statement}
+use Rattle.assembler.proofs.bytes.pack.Tie as tie
 
 -- the entry
 abbrev entry : tie.After-shared-slice-known9 → tie.Start
-entry c = c .before .before .before .before .before .before .before .before .before .before
+entry c = c.before.before.before.before.before.before.before.before.before.before
 
-shared-slice-read-nibble : tie.Need-shared-slice-read-nibble
-shared-slice-read-nibble c = search needs
+shared_slice_read_nibble : tie.Need-shared-slice-read-nibble
+shared_slice_read_nibble c = search rules
 
-add-nibble : tie.Need-add-nibble
-add-nibble c = search needs
+add_nibble : tie.Need-overflow-add-nibble
+add_nibble c = search rules
 
-shared-slice-read-nibble-2 : tie.Need-shared-slice-read-nibble-2
-shared-slice-read-nibble-2 c = search needs
+shared_slice_read_nibble_2 : tie.Need-shared-slice-read-nibble-2
+shared_slice_read_nibble_2 c = search rules
 
-add-nibble-2 : tie.Need-add-nibble-2
-add-nibble-2 c = search needs
+add_nibble_2 : tie.Need-overflow-add-nibble-2
+add_nibble_2 c = search rules
 
-shared-slice-read-nibble-3 : tie.Need-shared-slice-read-nibble-3
-shared-slice-read-nibble-3 c = search needs
+shared_slice_read_nibble_3 : tie.Need-shared-slice-read-nibble-3
+shared_slice_read_nibble_3 c = search rules
 
-add-nibble-3 : tie.Need-add-nibble-3
-add-nibble-3 c = search needs
+add_nibble_3 : tie.Need-overflow-add-nibble-3
+add_nibble_3 c = search rules
 
-shared-slice-read-nibble-4 : tie.Need-shared-slice-read-nibble-4
-shared-slice-read-nibble-4 c = search needs
+shared_slice_read_nibble_4 : tie.Need-shared-slice-read-nibble-4
+shared_slice_read_nibble_4 c = search rules
 
-nibble-requires : tie.Need-nibble-requires
-nibble-requires c κs =
-    let start = c .before .before .before .before .before in
-    let bit = start .pre .bits in
-    let at = start .args .at in
+nibble_requires : tie.Need-nibble-requires
+nibble_requires c κs =
+    let start = c.before.before.before.before.before in
+    let bit = start.requires.bits in
+    let at = start.args.at in
     (bit at, bit (at + 1), bit (at + 2), bit (at + 3))
 
-add-nibble-4 : tie.Need-add-nibble-4
-add-nibble-4 c = search needs
+add_nibble_4 : tie.Need-overflow-add-nibble-4
+add_nibble_4 c = search rules
 
-shared-slice-read-nibble-5 : tie.Need-shared-slice-read-nibble-5
-shared-slice-read-nibble-5 c = search needs
+shared_slice_read_nibble_5 : tie.Need-shared-slice-read-nibble-5
+shared_slice_read_nibble_5 c = search rules
 
-add-nibble-5 : tie.Need-add-nibble-5
-add-nibble-5 c = search needs
+add_nibble_5 : tie.Need-overflow-add-nibble-5
+add_nibble_5 c = search rules
 
-shared-slice-read-nibble-6 : tie.Need-shared-slice-read-nibble-6
-shared-slice-read-nibble-6 c = search needs
+shared_slice_read_nibble_6 : tie.Need-shared-slice-read-nibble-6
+shared_slice_read_nibble_6 c = search rules
 
-add-nibble-6 : tie.Need-add-nibble-6
-add-nibble-6 c = search needs
+add_nibble_6 : tie.Need-overflow-add-nibble-6
+add_nibble_6 c = search rules
 
-shared-slice-read-nibble-7 : tie.Need-shared-slice-read-nibble-7
-shared-slice-read-nibble-7 c = search needs
+shared_slice_read_nibble_7 : tie.Need-shared-slice-read-nibble-7
+shared_slice_read_nibble_7 c = search rules
 
-add-nibble-7 : tie.Need-add-nibble-7
-add-nibble-7 c = search needs
+add_nibble_7 : tie.Need-overflow-add-nibble-7
+add_nibble_7 c = search rules
 
-shared-slice-read-nibble-8 : tie.Need-shared-slice-read-nibble-8
-shared-slice-read-nibble-8 c = search needs
+shared_slice_read_nibble_8 : tie.Need-shared-slice-read-nibble-8
+shared_slice_read_nibble_8 c = search rules
 
-nibble-requires-2 : tie.Need-nibble-requires-2
-nibble-requires-2 c κs =
+nibble_requires_2 : tie.Need-nibble-requires-2
+nibble_requires_2 c κs =
     let start = entry c in
-    let bit = start .pre .bits in
-    let at = start .args .at in
+    let bit = start.pre.bits in
+    let at = start.args.at in
     (bit (at + 4), bit (at + 5), bit (at + 6), bit (at + 7))
 
-mul-result : tie.Need-mul-result
-mul-result c = search needs
+mul_result : tie.Need-overflow-mul-result
+mul_result c = search rules
 
-add-result : tie.Need-add-result
-add-result c = search needs
+add_result : tie.Need-overflow-add-result
+add_result c = search rules
 
 returns : tie.Need-returns
 returns c =
-    let start = entry (c .before) in
-    packed-eight (λ k. getD (now (start .args .line)) k 0) (start .args .at) _ _ (c .before .before .before .before .before .nibble .ensures .0) (c .nibble2 .ensures .0)
+    let start = entry c.before in
+    packed_eight (λ k. get_or start.args.line.now k 0) start.args.at _ _ c.before.before.before.before.before.nibble.ensures.0 c.nibble2.ensures.0
 
-pub pack-spec : {M : Type 1} → statement M
-pack-spec =
+pub pack_spec : {M : Type 1} → statement M
+pack_spec =
     tie.close
     (tie.spec
-    shared-slice-read-nibble
-    add-nibble
-    shared-slice-read-nibble-2
-    add-nibble-2
-    shared-slice-read-nibble-3
-    add-nibble-3
-    shared-slice-read-nibble-4
-    nibble-requires
-    add-nibble-4
-    shared-slice-read-nibble-5
-    add-nibble-5
-    shared-slice-read-nibble-6
-    add-nibble-6
-    shared-slice-read-nibble-7
-    add-nibble-7
-    shared-slice-read-nibble-8
-    nibble-requires-2
-    mul-result
-    add-result
+    shared_slice_read_nibble
+    add_nibble
+    shared_slice_read_nibble_2
+    add_nibble_2
+    shared_slice_read_nibble_3
+    add_nibble_3
+    shared_slice_read_nibble_4
+    nibble_requires
+    add_nibble_4
+    shared_slice_read_nibble_5
+    add_nibble_5
+    shared_slice_read_nibble_6
+    add_nibble_6
+    shared_slice_read_nibble_7
+    add_nibble_7
+    shared_slice_read_nibble_8
+    nibble_requires_2
+    mul_result
+    add_result
     returns)

@@ -1,65 +1,65 @@
 -- `plan_for`: its two tables are the definition's, and each product is small.
 use native.Mathlib.Omega.{arith}
-use Rattle·chain·specs.specs.Plan.{planOf}
-use Rattle·chain·proofs.proofs.Plans.{products}
-use borrow.Author.Needs.{needs}
-use Rattle·chain·proofs.proofs.plan.plan_for.Statement.{statement}
-use Rattle·chain·proofs.proofs.plan.plan_for.Tie as tie
+use Rattle.chain.specs.Plan.{plan_of}
+use Rattle.chain.proofs.Plans.{products}
+use borrow.Author.Rules.{rules}
+use Rattle.chain.proofs.plan.plan_for.Statement.{statement}
+use Rattle.chain.proofs.plan.plan_for.Tie as tie
 
 returns : tie.Need-returns
-unfolding planOf
-returns c = rw (c .carriers-of .ensures)
+unfolding plan_of
+returns c = rw c.carriers-of.ensures
 
-add-streams : tie.Need-add-streams
-add-streams c = search needs
+add_streams : tie.Need-overflow-add-streams
+add_streams c = search rules
 
-mul-bits : tie.Need-mul-bits
-mul-bits c = search needs
+mul_bits : tie.Need-overflow-mul-bits
+mul_bits c = search rules
 
-array-read-bits : tie.Need-array-read-bits
-array-read-bits c = search needs
+array_read_bits : tie.Need-array-read-bits
+array_read_bits c = search rules
 
-mul-kept : tie.Need-mul-kept
-mul-kept c = search needs
+mul_kept : tie.Need-overflow-mul-kept
+mul_kept c = search rules
 
-array-read-kept : tie.Need-array-read-kept
-array-read-kept c = search needs
+array_read_kept : tie.Need-array-read-kept
+array_read_kept c = search rules
 
-carriers-of-requires : tie.Need-carriers-of-requires
-carriers-of-requires c κs = search needs
+carriers_of_requires : tie.Need-carriers-of-requires
+carriers_of_requires c κs = search rules
 
-mul-block : tie.Need-mul-block
-mul-block c = rw (c .carriers-of .ensures) (record { fits = omega (arith, products (c .before .args .width) (c .before .pre .width) (c .before .args .mcs) (c .before .pre .mcs) .0) })
+mul_block : tie.Need-overflow-mul-block
+mul_block c = rw c.carriers-of.ensures (record { fits = omega (arith, (products c.before.args.width c.before.requires.width c.before.args.mcs c.before.requires.mcs).0) })
 
-mul-coded : tie.Need-mul-coded
-mul-coded c = rw (c .carriers-of .ensures) (record { fits = omega (arith, products (c .before .args .width) (c .before .pre .width) (c .before .args .mcs) (c .before .pre .mcs) .1 .0) })
+mul_coded : tie.Need-overflow-mul-coded
+mul_coded c = rw c.carriers-of.ensures (record { fits = omega (arith, (products c.before.args.width c.before.requires.width c.before.args.mcs c.before.requires.mcs).1.0) })
 
-mul-dbps : tie.Need-mul-dbps
-mul-dbps c = search needs
+mul_dbps : tie.Need-overflow-mul-dbps
+mul_dbps c = search rules
 
-array-read-dbps : tie.Need-array-read-dbps
-array-read-dbps c = search needs
+array_read_dbps : tie.Need-array-read-dbps
+array_read_dbps c = search rules
 
-mul-dbps-2 : tie.Need-mul-dbps-2
-mul-dbps-2 c = rw (c .carriers-of .ensures) (record { fits = omega (arith, products (c .before .args .width) (c .before .pre .width) (c .before .args .mcs) (c .before .pre .mcs) .1 .1 .0) })
+mul_dbps_2 : tie.Need-overflow-mul-dbps-2
+mul_dbps_2 c = rw c.carriers-of.ensures (record { fits = omega (arith, (products c.before.args.width c.before.requires.width c.before.args.mcs c.before.requires.mcs).1.1.0) })
 
-div-dbps : tie.Need-div-dbps
-div-dbps c = products (c .before .args .width) (c .before .pre .width) (c .before .args .mcs) (c .before .pre .mcs) .1 .1 .1
+div_dbps : tie.Need-nonzero-div-dbps
+div_dbps c = (products c.before.args.width c.before.requires.width c.before.args.mcs c.before.requires.mcs).1.1.1
 
-pub plan-for-spec : {M : Type 1} → statement M
-plan-for-spec =
+pub plan_for_spec : {M : Type 1} → statement M
+plan_for_spec =
     tie.close
     (tie.spec
-    add-streams
-    mul-bits
-    array-read-bits
-    mul-kept
-    array-read-kept
-    carriers-of-requires
-    mul-block
-    mul-coded
-    mul-dbps
-    array-read-dbps
-    mul-dbps-2
-    div-dbps
+    add_streams
+    mul_bits
+    array_read_bits
+    mul_kept
+    array_read_kept
+    carriers_of_requires
+    mul_block
+    mul_coded
+    mul_dbps
+    array_read_dbps
+    mul_dbps_2
+    div_dbps
     returns)

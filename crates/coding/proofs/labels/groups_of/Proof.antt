@@ -1,20 +1,20 @@
 -- `groups_of` divides by a product that is not 0.
 use native.Mathlib.Omega.{arith}
-use borrow.Author.Needs.{needs}
-use Rattle·coding·proofs.proofs.HalfLaws.{group-size}
-use Rattle·coding·proofs.proofs.labels.groups_of.Statement.{statement}
-use Rattle·coding·proofs.proofs.labels.groups_of.Tie as tie
+use borrow.Author.Rules.{rules}
+use Rattle.coding.proofs.HalfLaws.{group_size}
+use Rattle.coding.proofs.labels.groups_of.Statement.{statement}
+use Rattle.coding.proofs.labels.groups_of.Tie as tie
 
 returns : tie.Need-returns
-returns c = search needs
+returns c = search rules
 
-mul-result : tie.Need-mul-result
-mul-result c = let a = c .before in
-    omega (arith, group-size (a .args .plan .encoders) (a .pre .encoders) (a .args .plan .kept) (a .pre .kept) .1)
+mul_result : tie.Need-overflow-mul-result
+mul_result c = let a = c.before in
+    omega (arith, (group_size a.args.plan.encoders a.requires.encoders a.args.plan.kept a.requires.kept).1)
 
-div-result : tie.Need-div-result
-div-result c = let a = c .before .before in
-    group-size (a .args .plan .encoders) (a .pre .encoders) (a .args .plan .kept) (a .pre .kept) .0
+div_result : tie.Need-nonzero-div-result
+div_result c = let a = c.before.before in
+    (group_size a.args.plan.encoders a.requires.encoders a.args.plan.kept a.requires.kept).0
 
-pub groups-of-spec : {M : Type 1} → statement M
-groups-of-spec = tie.close (tie.spec mul-result div-result returns)
+pub groups_of_spec : {M : Type 1} → statement M
+groups_of_spec = tie.close (tie.spec mul_result div_result returns)

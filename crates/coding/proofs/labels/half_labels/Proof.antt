@@ -1,100 +1,100 @@
 -- `half_labels`: the line of inputs, its coded bits and their half labels, one from the other.
 use native.Mathlib.Omega.{arith}
-use Rattle·laws.proofs.Filling.{fill-small}
-use Rattle·chain.proofs.InputLaws.{input-bit, line-bit}
-use Rattle·coding·proofs.proofs.CallLaws.{sizes, halves-are}
-use borrow.Author.Needs.{needs}
-use Rattle·coding·proofs.proofs.labels.half_labels.Statement.{statement}
-use Rattle·coding·proofs.proofs.labels.half_labels.Tie as tie
+use Rattle.laws.proofs.Filling.{fill_small}
+use Rattle.chain.proofs.InputLaws.{input_bit, line_bit}
+use Rattle.coding.proofs.CallLaws.{sizes, halves_are}
+use borrow.Author.Rules.{rules}
+use Rattle.coding.proofs.labels.half_labels.Statement.{statement}
+use Rattle.coding.proofs.labels.half_labels.Tie as tie
 
 -- the entry
 abbrev entry : tie.After-groups-of → tie.Start
-entry c = c .before .before .before .before .before .before .before .before .before .before
+entry c = c.before.before.before.before.before.before.before.before.before.before
 
--- after coder-inputs
-abbrev coder-inputs : tie.After-slice-known2 → tie.After-coder-inputs
-coder-inputs c = c .before .before .before .before .before .before .before .before .before .before .before
+-- after coder_inputs
+abbrev coder_inputs : tie.After-slice-known2 → tie.After-coder-inputs
+coder_inputs c = c.before.before.before.before.before.before.before.before.before.before.before
 
 returns : tie.Need-returns
 returns c =
-    let q = entry (c .before .before .before .before .before .before .before) .pre in
-    halves-are _ (q .fits) _ _ (coder-inputs c .coder-inputs .ensures) (rw (c .before .before .before .before .before .before .before .groups-of .ensures) at (c .before .before .before .before .before .before .coded-bits .ensures))
-    (c .before .before .symbol-halves .ensures)
+    let q = (entry c.before.before.before.before.before.before.before).requires in
+    halves_are _ q.fits _ _ (coder_inputs c).coder-inputs.ensures (rw c.before.before.before.before.before.before.before.groups_of.ensures at c.before.before.before.before.before.before.coded-bits.ensures)
+    c.before.before.symbol-halves.ensures
 
-mul-inputs : tie.Need-mul-inputs
-mul-inputs c = omega (arith, sizes _ _ (c .before .before .pre .fits) (c .before .before .pre .near))
+mul_inputs : tie.Need-overflow-mul-inputs
+mul_inputs c = omega (arith, sizes _ _ c.before.before.requires.fits c.before.before.requires.near)
 
-add-inputs : tie.Need-add-inputs
-add-inputs c = omega (arith, sizes _ _ (c .before .before .before .pre .fits) (c .before .before .before .pre .near))
+add_inputs : tie.Need-overflow-add-inputs
+add_inputs c = omega (arith, sizes _ _ c.before.before.before.requires.fits c.before.before.before.requires.near)
 
-slice-aggregate-coder-inputs : tie.Need-slice-aggregate-coder-inputs
-slice-aggregate-coder-inputs c = search needs
+slice_aggregate_coder_inputs : tie.Need-slice-aggregate-coder-inputs
+slice_aggregate_coder_inputs c = search rules
 
-mul-coder-inputs : tie.Need-mul-coder-inputs
-mul-coder-inputs c = omega (arith, sizes _ _ (c .before .before .before .before .before .pre .fits) (c .before .before .before .before .before .pre .near))
+mul_coder_inputs : tie.Need-overflow-mul-coder-inputs
+mul_coder_inputs c = omega (arith, sizes _ _ c.before.before.before.before.before.requires.fits c.before.before.before.before.before.requires.near)
 
-coder-inputs-requires : tie.Need-coder-inputs-requires
-coder-inputs-requires c κs =
-    let q = c .before .before .before .before .before .pre in
-    let z = sizes _ _ (q .fits) (q .near) in
+coder_inputs_requires : tie.Need-coder-inputs-requires
+coder_inputs_requires c κs =
+    let q = c.before.before.before.before.before.requires in
+    let z = sizes _ _ q.fits q.near in
     record {
       room = omega (arith, z);
-      whole = q .whole;
-      short = q .short;
-      one-or-two = q .fits .encoders;
-      seeded = q .seeded;
-      near = z .first;
+      whole = q.whole;
+      short = q.short;
+      one_or_two = q.fits.encoders;
+      seeded = q.seeded;
+      near = z.first;
       some = omega (arith, z);
       few = omega (arith, z);
     }
 
-slice-aggregate-coded-bits : tie.Need-slice-aggregate-coded-bits
-slice-aggregate-coded-bits c = search needs
+slice_aggregate_coded_bits : tie.Need-slice-aggregate-coded-bits
+slice_aggregate_coded_bits c = search rules
 
-slice-aggregate-coded-bits-2 : tie.Need-slice-aggregate-coded-bits-2
-slice-aggregate-coded-bits-2 c = search needs
+slice_aggregate_coded_bits_2 : tie.Need-slice-aggregate-coded-bits-2
+slice_aggregate_coded_bits_2 c = search rules
 
-groups-of-requires : tie.Need-groups-of-requires
-groups-of-requires c κs = search needs
+groups_of_requires : tie.Need-groups-of-requires
+groups_of_requires c κs = search rules
 
-coded-bits-requires : tie.Need-coded-bits-requires
-coded-bits-requires c κs =
-    let q = entry c .pre in
-    let z = sizes _ _ (q .fits) (q .near) in
-    let g = c .groups-of .ensures in
+coded_bits_requires : tie.Need-coded-bits-requires
+coded_bits_requires c κs =
+    let q = (entry c).requires in
+    let z = sizes _ _ q.fits q.near in
+    let g = c.groups_of.ensures in
     rw g (record {
-      one-or-two = q .fits .encoders;
-      rate = q .fits .kept;
-      room = search needs;
+      one_or_two = q.fits.encoders;
+      rate = q.fits.kept;
+      room = search rules;
       fits = omega (arith, z);
       inputs = omega (arith, z);
       near = omega (arith, z);
-      bits = λ e l. fill-small (c .before .before .before .before .coder-inputs .ensures) (λ k. line-bit _ (λ d. input-bit _ _ _ _ d) _ _) e (omega (arith, z));
+      bits = λ e l. fill_small c.before.before.before.before.coder-inputs.ensures (λ k. line_bit _ (λ d. input_bit _ _ _ _ d) _ _) e (omega (arith, z));
     })
 
-slice-aggregate-symbol-halves : tie.Need-slice-aggregate-symbol-halves
-slice-aggregate-symbol-halves c = search needs
+slice_aggregate_symbol_halves : tie.Need-slice-aggregate-symbol-halves
+slice_aggregate_symbol_halves c = search rules
 
-symbol-halves-requires : tie.Need-symbol-halves-requires
-symbol-halves-requires c κs = search needs
+symbol_halves_requires : tie.Need-symbol-halves-requires
+symbol_halves_requires c κs = search rules
 
-same-length : tie.Need-same-length
-same-length c = search needs
+same_length : tie.Need-same-length
+same_length c = search rules
 
-pub half-labels-spec : {M : Type 1} → statement M
-half-labels-spec =
+pub half_labels_spec : {M : Type 1} → statement M
+half_labels_spec =
     tie.close
     (tie.spec
-    mul-inputs
-    add-inputs
-    slice-aggregate-coder-inputs
-    mul-coder-inputs
-    coder-inputs-requires
-    slice-aggregate-coded-bits
-    slice-aggregate-coded-bits-2
-    groups-of-requires
-    coded-bits-requires
-    slice-aggregate-symbol-halves
-    symbol-halves-requires
-    same-length
+    mul_inputs
+    add_inputs
+    slice_aggregate_coder_inputs
+    mul_coder_inputs
+    coder_inputs_requires
+    slice_aggregate_coded_bits
+    slice_aggregate_coded_bits_2
+    groups_of_requires
+    coded_bits_requires
+    slice_aggregate_symbol_halves
+    symbol_halves_requires
+    same_length
     returns)

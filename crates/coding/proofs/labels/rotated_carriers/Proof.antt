@@ -1,33 +1,33 @@
 -- `rotated_carriers` goes by the width.
 use native.Mathlib.Omega.{arith}
-use borrow.Author.Needs.{needs}
-use Rattle·chain.specs.Interleaver.{rotation}
-use Rattle·coding·proofs.proofs.labels.rotated_carriers.Statement.{statement}
-use Rattle·coding·proofs.proofs.labels.rotated_carriers.Tie as tie
+use borrow.Author.Rules.{rules}
+use Rattle.chain.specs.Interleaver.{rotation}
+use Rattle.coding.proofs.labels.rotated_carriers.Statement.{statement}
+use Rattle.coding.proofs.labels.rotated_carriers.Tie as tie
 
 returns : tie.Need-returns
 unfolding rotation
-returns c = simp (c .if1 .taken) (omega arith)
+returns c = simp c.if1.true (omega arith)
 
-mul-turns : tie.Need-mul-turns
-mul-turns c = search needs
+mul_turns : tie.Need-overflow-mul-turns
+mul_turns c = search rules
 
-mul-turns-2 : tie.Need-mul-turns-2
-mul-turns-2 c = search needs
+mul_turns_2 : tie.Need-overflow-mul-turns-2
+mul_turns_2 c = search rules
 
-add-turns : tie.Need-add-turns
-add-turns c = search needs
+add_turns : tie.Need-overflow-add-turns
+add_turns c = search rules
 
-mul-result : tie.Need-mul-result
-mul-result c = search needs
+mul_result : tie.Need-overflow-mul-result
+mul_result c = search rules
 
-mul-result-2 : tie.Need-mul-result-2
-mul-result-2 c = search needs
+mul_result_2 : tie.Need-overflow-mul-result-2
+mul_result_2 c = search rules
 
-returns-2 : tie.Need-returns-2
+returns_2 : tie.Need-returns-2
 unfolding rotation
-returns-2 c = simp (c .if1 .left) (omega arith)
+returns_2 c = simp c.if1.false (omega arith)
 
-pub rotated-carriers-spec : {M : Type 1} → statement M
-rotated-carriers-spec =
-    tie.close (tie.spec mul-turns mul-turns-2 add-turns mul-result mul-result-2 returns returns-2)
+pub rotated_carriers_spec : {M : Type 1} → statement M
+rotated_carriers_spec =
+    tie.close (tie.spec mul_turns mul_turns_2 add_turns mul_result mul_result_2 returns returns_2)

@@ -1,89 +1,89 @@
 -- `put_byte` stores eight bits, each the payload's.
 use native.Mathlib.Omega.{arith}
 use lib.ListN.{length-set}
-use borrow.Author.Needs.{needs}
-use Rattle·laws.proofs.Filling.{fill-none, fill-more}
-use Rattle·data_bits·proofs.proofs.bits.put_byte.Statement.{statement}
-use Rattle·data_bits·proofs.proofs.bits.put_byte.Tie as tie
+use borrow.Author.Rules.{rules}
+use Rattle.laws.proofs.Filling.{fill_none, fill_more}
+use Rattle.data_bits.proofs.bits.put_byte.Statement.{statement}
+use Rattle.data_bits.proofs.bits.put_byte.Tie as tie
 
 returns : tie.Need-returns
 returns c =
-    fill-more _ _ _ 7 _ _ _ _ (omega arith) (omega arith) (omega arith)
-    (fill-more _ _ _ 6 _ _ _ _ (omega arith) (omega arith) (omega arith)
-    (fill-more _ _ _ 5 _ _ _ _ (omega arith) (omega arith) (omega arith)
-    (fill-more _ _ _ 4 _ _ _ _ (omega arith) (omega arith) (omega arith)
-    (fill-more _ _ _ 3 _ _ _ _ (omega arith) (omega arith) (omega arith)
-    (fill-more _ _ _ 2 _ _ _ _ (omega arith) (omega arith) (omega arith)
-    (fill-more _ _ _ 1 _ _ _ _ (omega arith) (omega arith) (omega arith)
-    (fill-more _ _ _ 0 _ _ _ _ (omega arith) (omega arith) (omega arith)
-    (fill-none _ _ _ _))))))))
+    fill_more _ _ _ 7 _ _ _ _ (omega arith) (omega arith) (omega arith)
+    (fill_more _ _ _ 6 _ _ _ _ (omega arith) (omega arith) (omega arith)
+    (fill_more _ _ _ 5 _ _ _ _ (omega arith) (omega arith) (omega arith)
+    (fill_more _ _ _ 4 _ _ _ _ (omega arith) (omega arith) (omega arith)
+    (fill_more _ _ _ 3 _ _ _ _ (omega arith) (omega arith) (omega arith)
+    (fill_more _ _ _ 2 _ _ _ _ (omega arith) (omega arith) (omega arith)
+    (fill_more _ _ _ 1 _ _ _ _ (omega arith) (omega arith) (omega arith)
+    (fill_more _ _ _ 0 _ _ _ _ (omega arith) (omega arith) (omega arith)
+    (fill_none _ _ _ _))))))))
 
-slice-write-raw : tie.Need-slice-write-raw
-slice-write-raw c = search needs
+slice_write_raw : tie.Need-slice-write-raw
+slice_write_raw c = search rules
 
-add-raw : tie.Need-add-raw
-add-raw c = search needs
+add_raw : tie.Need-overflow-add-raw
+add_raw c = search rules
 
-slice-write-raw-2 : tie.Need-slice-write-raw-2
-slice-write-raw-2 c = simp length-set (omega arith)
+slice_write_raw_2 : tie.Need-slice-write-raw-2
+slice_write_raw_2 c = simp length-set (omega arith)
 
-add-raw-2 : tie.Need-add-raw-2
-add-raw-2 c = search needs
+add_raw_2 : tie.Need-overflow-add-raw-2
+add_raw_2 c = search rules
 
-slice-write-raw-3 : tie.Need-slice-write-raw-3
-slice-write-raw-3 c = simp length-set (omega arith)
+slice_write_raw_3 : tie.Need-slice-write-raw-3
+slice_write_raw_3 c = simp length-set (omega arith)
 
-add-raw-3 : tie.Need-add-raw-3
-add-raw-3 c = search needs
+add_raw_3 : tie.Need-overflow-add-raw-3
+add_raw_3 c = search rules
 
-slice-write-raw-4 : tie.Need-slice-write-raw-4
-slice-write-raw-4 c = simp length-set (omega arith)
+slice_write_raw_4 : tie.Need-slice-write-raw-4
+slice_write_raw_4 c = simp length-set (omega arith)
 
-add-raw-4 : tie.Need-add-raw-4
-add-raw-4 c = search needs
+add_raw_4 : tie.Need-overflow-add-raw-4
+add_raw_4 c = search rules
 
-slice-write-raw-5 : tie.Need-slice-write-raw-5
-slice-write-raw-5 c = simp length-set (omega arith)
+slice_write_raw_5 : tie.Need-slice-write-raw-5
+slice_write_raw_5 c = simp length-set (omega arith)
 
-add-raw-5 : tie.Need-add-raw-5
-add-raw-5 c = search needs
+add_raw_5 : tie.Need-overflow-add-raw-5
+add_raw_5 c = search rules
 
-slice-write-raw-6 : tie.Need-slice-write-raw-6
-slice-write-raw-6 c = simp length-set (omega arith)
+slice_write_raw_6 : tie.Need-slice-write-raw-6
+slice_write_raw_6 c = simp length-set (omega arith)
 
-add-raw-6 : tie.Need-add-raw-6
-add-raw-6 c = search needs
+add_raw_6 : tie.Need-overflow-add-raw-6
+add_raw_6 c = search rules
 
-slice-write-raw-7 : tie.Need-slice-write-raw-7
-slice-write-raw-7 c = simp length-set (omega arith)
+slice_write_raw_7 : tie.Need-slice-write-raw-7
+slice_write_raw_7 c = simp length-set (omega arith)
 
-add-raw-7 : tie.Need-add-raw-7
-add-raw-7 c = search needs
+add_raw_7 : tie.Need-overflow-add-raw-7
+add_raw_7 c = search rules
 
-slice-write-raw-8 : tie.Need-slice-write-raw-8
-slice-write-raw-8 c = simp length-set (omega arith)
+slice_write_raw_8 : tie.Need-slice-write-raw-8
+slice_write_raw_8 c = simp length-set (omega arith)
 
-same-length : tie.Need-same-length
-same-length c = search needs
+same_length : tie.Need-same-length
+same_length c = search rules
 
-pub put-byte-spec : {M : Type 1} → statement M
-put-byte-spec =
+pub put_byte_spec : {M : Type 1} → statement M
+put_byte_spec =
     tie.close
     (tie.spec
-    slice-write-raw
-    add-raw
-    slice-write-raw-2
-    add-raw-2
-    slice-write-raw-3
-    add-raw-3
-    slice-write-raw-4
-    add-raw-4
-    slice-write-raw-5
-    add-raw-5
-    slice-write-raw-6
-    add-raw-6
-    slice-write-raw-7
-    add-raw-7
-    slice-write-raw-8
-    same-length
+    slice_write_raw
+    add_raw
+    slice_write_raw_2
+    add_raw_2
+    slice_write_raw_3
+    add_raw_3
+    slice_write_raw_4
+    add_raw_4
+    slice_write_raw_5
+    add_raw_5
+    slice_write_raw_6
+    add_raw_6
+    slice_write_raw_7
+    add_raw_7
+    slice_write_raw_8
+    same_length
     returns)

@@ -1,75 +1,74 @@
 -- `put_bytes` puts one byte a turn.
-use Prim.Native.Nat.{_+_, _-_, _*_, _≤_}
+use Prim.Native.Nat.{◌+◌, ◌-◌, ◌*◌, ◌≤◌}
 use native.Mathlib.Omega.{arith}
-use denote.Ref.{now}
-use borrow.Author.Needs.{needs}
-use Rattle·laws.specs.Filled.{Filled}
-use Rattle·laws.proofs.Filling.{fill-none, fill-end}
-use Rattle·chain.specs.DataBits.{payloadBit}
-use Rattle·data_bits·proofs.proofs.Bytes.{bytes-more}
-use Rattle·data_bits·proofs.proofs.bits.put_bytes.Statement.{statement}
-use Rattle·data_bits·proofs.proofs.bits.put_bytes.Tie as tie
+use borrow.Author.Rules.{rules}
+use Rattle.laws.specs.Filled.{Filled}
+use Rattle.laws.proofs.Filling.{fill_none, fill_end}
+use Rattle.chain.specs.DataBits.{payload_bit}
+use Rattle.data_bits.proofs.Bytes.{bytes_more}
+use Rattle.data_bits.proofs.bits.put_bytes.Statement.{statement}
+use Rattle.data_bits.proofs.bits.put_bytes.Tie as tie
 
-abbrev Inv-loop : tie.InvT-loop
-Inv-loop raw₀ payload to from count m₀ raw m =
-    (m ≤ count) × Filled 0 (8 * to) (λ k. payloadBit payload (8 * from + k)) (8 * m) raw₀ raw
+abbrev invariant-loop : tie.invariant-loop
+invariant-loop raw₀ payload to from count m₀ raw m =
+    (m ≤ count) × Filled 0 (8 * to) (λ k. payload_bit payload (8 * from + k)) (8 * m) raw₀ raw
 
-abbrev μ-loop : tie.MeasureT-loop
-μ-loop raw₀ payload to from count m₀ raw m = count - m
+abbrev decreases_loop : tie.decreases-loop
+decreases_loop raw₀ payload to from count m₀ raw m = count - m
 
-loop-holds : tie.Need-loop-holds Inv-loop μ-loop
-loop-holds c = (omega arith, fill-none _ _ _ _)
+loop_holds : tie.Need-loop-init invariant-loop decreases_loop
+loop_holds c = (omega arith, fill_none _ _ _ _)
 
-add-put-byte : tie.Need-add-put-byte Inv-loop μ-loop
-add-put-byte c = search needs
+add_put_byte : tie.Need-overflow-add-put-byte invariant-loop decreases_loop
+add_put_byte c = search rules
 
-mul-put-byte : tie.Need-mul-put-byte Inv-loop μ-loop
-mul-put-byte c = search needs
+mul_put_byte : tie.Need-overflow-mul-put-byte invariant-loop decreases_loop
+mul_put_byte c = search rules
 
-add-put-byte-2 : tie.Need-add-put-byte-2 Inv-loop μ-loop
-add-put-byte-2 c = search needs
+add_put_byte_2 : tie.Need-overflow-add-put-byte-2 invariant-loop decreases_loop
+add_put_byte_2 c = search rules
 
-shared-slice-read-put-byte : tie.Need-shared-slice-read-put-byte Inv-loop μ-loop
-shared-slice-read-put-byte c = search needs
+shared_slice_read_put_byte : tie.Need-shared-slice-read-put-byte invariant-loop decreases_loop
+shared_slice_read_put_byte c = search rules
 
-put-byte-requires : tie.Need-put-byte-requires Inv-loop μ-loop
-put-byte-requires c κs = search needs
+put_byte_requires : tie.Need-put-byte-requires invariant-loop decreases_loop
+put_byte_requires c κs = search rules
 
-add-m : tie.Need-add-m Inv-loop μ-loop
-add-m c = search needs
+add_m : tie.Need-overflow-add-m invariant-loop decreases_loop
+add_m c = search rules
 
-loop-less : tie.Need-loop-less Inv-loop μ-loop
-loop-less c = search needs
+loop_less : tie.Need-loop-smaller invariant-loop decreases_loop
+loop_less c = search rules
 
-loop-again : tie.Need-loop-again Inv-loop μ-loop
-loop-again c =
-    let put = c .before .before in
-    let turn = put .before .before .before .before in
-    let a = turn .before .before .before .args in (
-      search needs,
-      bytes-more (now (a .payload)) (a .to) (a .from) _ _ _ _ (turn .loop .inv .1) (put .put-byte .ensures),
+loop_again : tie.Need-loop-preserved invariant-loop decreases_loop
+loop_again c =
+    let put = c.before.before in
+    let turn = put.before.before.before.before in
+    let a = turn.before.before.before.args in (
+      search rules,
+      bytes_more a.payload.now a.to a.from _ _ _ _ turn.loop.invariant.1 put.put_byte.ensures,
     )
 
-same-length : tie.Need-same-length Inv-loop μ-loop
-same-length c = search needs
+same_length : tie.Need-same-length invariant-loop decreases_loop
+same_length c = search rules
 
-returns : tie.Need-returns Inv-loop μ-loop
-returns c = fill-end _ _ _ (omega arith) (c .before .loop .inv .1)
+returns : tie.Need-returns invariant-loop decreases_loop
+returns c = fill_end _ _ _ (omega arith) c.before.loop.invariant.1
 
-pub put-bytes-spec : {M : Type 1} → statement M
-put-bytes-spec =
+pub put_bytes_spec : {M : Type 1} → statement M
+put_bytes_spec =
     tie.close
     (tie.spec
-    Inv-loop
-    μ-loop
-    loop-holds
-    add-put-byte
-    mul-put-byte
-    add-put-byte-2
-    shared-slice-read-put-byte
-    put-byte-requires
-    add-m
-    loop-less
-    loop-again
-    same-length
+    invariant-loop
+    decreases_loop
+    loop_holds
+    add_put_byte
+    mul_put_byte
+    add_put_byte_2
+    shared_slice_read_put_byte
+    put_byte_requires
+    add_m
+    loop_less
+    loop_again
+    same_length
     returns)

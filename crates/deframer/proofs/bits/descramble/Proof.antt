@@ -1,42 +1,41 @@
 -- `bits::descramble` meets its contract: inputs with the outputs on them are the plain bits.
-use denote.Ref.{now}
-use Rattle·deframer·proofs.proofs.Plain.{plain-filled}
-use borrow.Author.Needs.{needs}
-use Rattle·deframer·proofs.proofs.bits.descramble.Statement.{statement}
-use Rattle·deframer·proofs.proofs.bits.descramble.Tie as tie
+use Rattle.deframer.proofs.Plain.{plain_filled}
+use borrow.Author.Rules.{rules}
+use Rattle.deframer.proofs.bits.descramble.Statement.{statement}
+use Rattle.deframer.proofs.bits.descramble.Tie as tie
 
 -- the entry
 abbrev entry : tie.After-take-off → tie.Start
-entry c = c .before .before .before .before .before .before .before .before
+entry c = c.before.before.before.before.before.before.before.before
 
-slice-aggregate-scrambler-outputs : tie.Need-slice-aggregate-scrambler-outputs
-slice-aggregate-scrambler-outputs c = search needs
+slice_aggregate_scrambler_outputs : tie.Need-slice-aggregate-scrambler-outputs
+slice_aggregate_scrambler_outputs c = search rules
 
-scrambler-outputs-requires : tie.Need-scrambler-outputs-requires
-scrambler-outputs-requires c κs = search needs
+scrambler_outputs_requires : tie.Need-scrambler-outputs-requires
+scrambler_outputs_requires c κs = search rules
 
-slice-aggregate-take-off : tie.Need-slice-aggregate-take-off
-slice-aggregate-take-off c = search needs
+slice_aggregate_take_off : tie.Need-slice-aggregate-take-off
+slice_aggregate_take_off c = search rules
 
-take-off-requires : tie.Need-take-off-requires
-take-off-requires c κs = search needs
+take_off_requires : tie.Need-take-off-requires
+take_off_requires c κs = search rules
 
-same-length : tie.Need-same-length
-same-length c = search needs
+same_length : tie.Need-same-length
+same_length c = search rules
 
 returns : tie.Need-returns
 returns c =
-    let taken = c .before .before in
+    let taken = c.before.before in
     let start = entry taken in
-    plain-filled (now (start .args .inputs)) _ _ _ _ (start .args .state) _ (start .pre .bits) (taken .before .before .before .before .scrambler-outputs .ensures) (taken .take-off .ensures)
+    plain_filled start.args.inputs.now _ _ _ _ start.args.state _ start.pre.bits taken.before.before.before.before.scrambler-outputs.ensures taken.take-off.ensures
 
-pub descramble-spec : {M : Type 1} → statement M
-descramble-spec =
+pub descramble_spec : {M : Type 1} → statement M
+descramble_spec =
     tie.close
     (tie.spec
-    slice-aggregate-scrambler-outputs
-    scrambler-outputs-requires
-    slice-aggregate-take-off
-    take-off-requires
-    same-length
+    slice_aggregate_scrambler_outputs
+    scrambler_outputs_requires
+    slice_aggregate_take_off
+    take_off_requires
+    same_length
     returns)

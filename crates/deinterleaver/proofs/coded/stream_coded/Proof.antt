@@ -1,75 +1,74 @@
 -- `stream_coded`: the two runs round a stream's rotation are the stream.
-use Prim.Native.Nat.{_-_, _*_}
+use Prim.Native.Nat.{◌-◌, ◌*◌}
 use native.Mathlib.Omega.{arith}
-use denote.Ref.{now}
-use borrow.Author.Needs.{needs}
-use Rattle·chain.proofs.InterleaverLaws.{stream-below-four}
-use Rattle·deinterleaver·proofs.proofs.PlaceLaws.{Turned, block-few, turn-less, stream-near, shift-few, turned, first-asked, second-asked, stream-done}
-use Rattle·deinterleaver·proofs.proofs.coded.stream_coded.Statement.{statement}
-use Rattle·deinterleaver·proofs.proofs.coded.stream_coded.Tie as tie
+use borrow.Author.Rules.{rules}
+use Rattle.chain.proofs.InterleaverLaws.{stream_below_four}
+use Rattle.deinterleaver.proofs.PlaceLaws.{Turned, block_few, turn_less, stream_near, shift_few, turned, first_asked, second_asked, stream_done}
+use Rattle.deinterleaver.proofs.coded.stream_coded.Statement.{statement}
+use Rattle.deinterleaver.proofs.coded.stream_coded.Tie as tie
 
 -- the entry, and the place where all is counted
 abbrev start : tie.After-struct-known → tie.Start
-start c = c .before .before .before .before .before .before
+start c = c.before.before.before.before.before.before
 
 abbrev counted : tie.After-put-run-arg2 → tie.After-struct-known
-counted c = c .before .before .before .before .before
+counted c = c.before.before.before.before.before
 
 -- what is counted
 abbrev turn : (c : tie.After-struct-known)
     → let a = start c in
-    let carriers = c .before .rotated-carriers .result in
-    Turned (a .args .plan) (a .args .i) (a .args .i * c .before .before .axis-bits .result) (carriers * a .args .plan .bits)
-    (a .args .plan .block - carriers * a .args .plan .bits) (a .args .i * a .args .plan .block)
+    let carriers = c.before.rotated-carriers.result in
+    Turned a.args.plan a.args.i (a.args.i * c.before.before.axis-bits.result) (carriers * a.args.plan.bits)
+    (a.args.plan.block - carriers * a.args.plan.bits) (a.args.i * a.args.plan.block)
 turn c =
     let a = start c in
-    turned (a .args .plan) (a .pre .fits) (a .args .i) (a .pre .stream) _ _ (c .before .before .axis-bits .ensures) (c .before .rotated-carriers .ensures)
+    turned a.args.plan a.pre.fits a.args.i a.pre.stream _ _ c.before.before.axis-bits.ensures c.before.rotated-carriers.ensures
 
-axis-bits-requires : tie.Need-axis-bits-requires
-axis-bits-requires c κs = search needs
+axis_bits_requires : tie.Need-axis-bits-requires
+axis_bits_requires c κs = search rules
 
-mul-shift : tie.Need-mul-shift
-mul-shift c = let a = c .before .before .before .before in let t = shift-few (a .args .plan) (a .pre .fits) (a .args .i) (a .pre .stream) in let e = c .axis-bits .ensures in rw e (omega (arith, t))
+mul_shift : tie.Need-overflow-mul-shift
+mul_shift c = let a = c.before.before.before.before in let t = shift_few a.args.plan a.requires.fits a.args.i a.requires.stream in let e = c.axis-bits.ensures in rw e (omega (arith, t))
 
-rotated-carriers-requires : tie.Need-rotated-carriers-requires
-rotated-carriers-requires c κs = let a = c .before .before .before .before in omega (arith, stream-below-four (a .args .plan) (a .pre .fits) (a .args .i) (a .pre .stream))
+rotated_carriers_requires : tie.Need-rotated-carriers-requires
+rotated_carriers_requires c κs = let a = c.before.before.before.before in omega (arith, stream_below_four a.args.plan a.requires.fits a.args.i a.requires.stream)
 
-mul-turn : tie.Need-mul-turn
-mul-turn c = let a = start c in omega (arith, turn c, turn-less (a .args .plan) (a .pre .fits) (a .args .i) (a .pre .stream), block-few (a .args .plan) (a .pre .fits))
+mul_turn : tie.Need-overflow-mul-turn
+mul_turn c = let a = start c in omega (arith, turn c, turn_less a.args.plan a.pre.fits a.args.i a.pre.stream, block_few a.args.plan a.pre.fits)
 
-sub-rest : tie.Need-sub-rest
-sub-rest c = let a = start c in omega (arith, turn c, turn-less (a .args .plan) (a .pre .fits) (a .args .i) (a .pre .stream))
+sub_rest : tie.Need-overflow-sub-rest
+sub_rest c = let a = start c in omega (arith, turn c, turn_less a.args.plan a.pre.fits a.args.i a.pre.stream)
 
-mul-from : tie.Need-mul-from
-mul-from c = let a = start c in omega (arith, stream-near (a .args .plan) (a .pre .fits) (a .args .i) (a .pre .stream))
+mul_from : tie.Need-overflow-mul-from
+mul_from c = let a = start c in omega (arith, stream_near a.args.plan a.pre.fits a.args.i a.pre.stream)
 
-put-run-requires : tie.Need-put-run-requires
-put-run-requires c κs = let k = c .before in let a = start k in first-asked (a .args .plan) (a .pre .fits) (a .args .i) (a .pre .stream) (now (a .args .table)) (a .pre .tabled) (turn k) (a .pre .sized) (a .pre .whole-bits) (a .pre .wide-enough)
+put_run_requires : tie.Need-put-run-requires
+put_run_requires c κs = let k = c.before in let a = start k in first_asked a.args.plan a.pre.fits a.args.i a.pre.stream a.args.table.now a.pre.tabled (turn k) a.pre.sized a.pre.whole_bits_lem a.pre.wide_enough
 
-add-put-run : tie.Need-add-put-run
-add-put-run c = let a = start (counted c) in omega (arith, turn (counted c), stream-near (a .args .plan) (a .pre .fits) (a .args .i) (a .pre .stream))
+add_put_run : tie.Need-overflow-add-put-run
+add_put_run c = let a = start (counted c) in omega (arith, turn (counted c), stream_near a.args.plan a.pre.fits a.args.i a.pre.stream)
 
-put-run-requires-2 : tie.Need-put-run-requires-2
-put-run-requires-2 c κs = let k = counted c in let a = start k in second-asked (a .args .plan) (a .pre .fits) (a .args .i) (a .pre .stream) (now (a .args .table)) (a .pre .tabled) (turn k) (omega (arith, a .pre .sized, c .before .before .before .put-run .ensures .same)) (a .pre .whole-bits) (a .pre .wide-enough)
+put_run_requires_2 : tie.Need-put-run-requires-2
+put_run_requires_2 c κs = let k = counted c in let a = start k in second_asked a.args.plan a.pre.fits a.args.i a.pre.stream a.args.table.now a.pre.tabled (turn k) (omega (arith, a.pre.sized, c.before.before.before.put-run.ensures.same)) a.pre.whole_bits_lem a.pre.wide_enough
 
-same-length : tie.Need-same-length
-same-length c = search needs
+same_length : tie.Need-same-length
+same_length c = search rules
 
 returns : tie.Need-returns
-returns c = let q = c .before .before .before in let k = counted q in let a = start k in stream-done (a .args .plan) (a .pre .fits) (a .args .i) (a .pre .stream) (now (a .args .table)) (a .pre .tabled) (turn k) (now (a .args .bits)) _ _ _ (q .before .before .before .put-run .ensures) (c .before .before .put-run2 .ensures)
+returns c = let q = c.before.before.before in let k = counted q in let a = start k in stream_done a.args.plan a.pre.fits a.args.i a.pre.stream a.args.table.now a.pre.tabled (turn k) a.args.bits.now _ _ _ q.before.before.before.put-run.ensures c.before.before.put-run2.ensures
 
-pub stream-coded-spec : {M : Type 1} → statement M
-stream-coded-spec =
+pub stream_coded_spec : {M : Type 1} → statement M
+stream_coded_spec =
     tie.close
     (tie.spec
-    axis-bits-requires
-    mul-shift
-    rotated-carriers-requires
-    mul-turn
-    sub-rest
-    mul-from
-    put-run-requires
-    add-put-run
-    put-run-requires-2
-    same-length
+    axis_bits_requires
+    mul_shift
+    rotated_carriers_requires
+    mul_turn
+    sub_rest
+    mul_from
+    put_run_requires
+    add_put_run
+    put_run_requires_2
+    same_length
     returns)

@@ -1,82 +1,82 @@
 -- `symbol_coded` places the label bits stream by stream.
-use mathlib.Core.Path.{_≡_}
-use Prim.Native.Nat.{_-_, _≤_}
+use mathlib.Core.Path.{◌≡◌}
+use Prim.Native.Nat.{◌-◌, ◌≤◌}
 use native.Mathlib.Omega.{arith}
 use lib.ListN.{length}
-use borrow.Author.Needs.{needs}
-use Rattle·laws.proofs.Filling.{fill-at}
-use Rattle·sources.specs.Sources.{labelSource}
-use Rattle·sources.proofs.SourceLaws.{small}
-use Rattle·deinterleaver·specs.specs.Asked.{Placed}
-use Rattle·deinterleaver·proofs.proofs.PlaceLaws.{placed-none, placed-more, placed-end}
-use Rattle·deinterleaver·proofs.proofs.coded.symbol_coded.Statement.{statement}
-use Rattle·deinterleaver·proofs.proofs.coded.symbol_coded.Tie as tie
+use borrow.Author.Rules.{rules}
+use Rattle.laws.proofs.Filling.{fill_at}
+use Rattle.sources.specs.Sources.{label_source}
+use Rattle.sources.proofs.SourceLaws.{small}
+use Rattle.deinterleaver.specs.Asked.{Placed}
+use Rattle.deinterleaver.proofs.PlaceLaws.{placed_none, placed_more, placed_end}
+use Rattle.deinterleaver.proofs.coded.symbol_coded.Statement.{statement}
+use Rattle.deinterleaver.proofs.coded.symbol_coded.Tie as tie
 
-abbrev Inv-loop : tie.InvT-loop
-Inv-loop coded₀ bits plan table streams i₀ coded i = (i ≤ streams) × Placed plan bits i coded₀ coded
+abbrev invariant-loop : tie.invariant-loop
+invariant-loop coded₀ bits plan table streams i₀ coded i = (i ≤ streams) × Placed plan bits i coded₀ coded
 
-abbrev μ-loop : tie.MeasureT-loop
-μ-loop coded₀ bits plan table streams i₀ coded i = streams - i
+abbrev decreases_loop : tie.decreases-loop
+decreases_loop coded₀ bits plan table streams i₀ coded i = streams - i
 
-slice-aggregate-label-sources : tie.Need-slice-aggregate-label-sources Inv-loop μ-loop
-slice-aggregate-label-sources c = search needs
+slice_aggregate_label_sources : tie.Need-slice-aggregate-label-sources invariant-loop decreases_loop
+slice_aggregate_label_sources c = search rules
 
-label-sources-requires : tie.Need-label-sources-requires Inv-loop μ-loop
-label-sources-requires c κs = let a = c .before .before .before in record { fits = a .pre .fits; room = small (a .args .plan) (a .pre .fits) .block }
+label_sources_requires : tie.Need-label-sources-requires invariant-loop decreases_loop
+label_sources_requires c κs = let a = c.before.before.before in record { fits = a.requires.fits; room = (small a.args.plan a.requires.fits).block }
 
-loop-holds : tie.Need-loop-holds Inv-loop μ-loop
-loop-holds c = (search needs, placed-none _ _ _)
+loop_holds : tie.Need-loop-init invariant-loop decreases_loop
+loop_holds c = (search rules, placed_none _ _ _)
 
-slice-aggregate-stream-coded : tie.Need-slice-aggregate-stream-coded Inv-loop μ-loop
-slice-aggregate-stream-coded c = search needs
+slice_aggregate_stream_coded : tie.Need-slice-aggregate-stream-coded invariant-loop decreases_loop
+slice_aggregate_stream_coded c = search rules
 
-stream-coded-requires : tie.Need-stream-coded-requires Inv-loop μ-loop
-stream-coded-requires c κs = let l = c .before .before .before in
-    let k = l .before .before in
-    let a = k .before .before .before .before in
-    let p = a .args .plan in
-    let filled = k .label-sources .ensures in
-    let sized : length (k .label-sources .last .0) ≡ 648 = filled .same in
+stream_coded_requires : tie.Need-stream-coded-requires invariant-loop decreases_loop
+stream_coded_requires c κs = let l = c.before.before.before in
+    let k = l.before.before in
+    let a = k.before.before.before.before in
+    let p = a.args.plan in
+    let filled = k.label-sources.ensures in
+    let sized : length k.label-sources.new.0 ≡ 648 = filled.same in
     record {
-      fits = a .pre .fits;
-      sized = omega (arith, a .pre .sized, l .loop .inv .1 .same);
-      whole-bits = a .pre .whole-bits;
-      stream = c .before .before .loop-test .taken;
-      wide-enough = omega (arith, small p (a .pre .fits) .block);
-      tabled = λ r h. fill-at 0 (λ n. labelSource p n) filled r h;
+      fits = a.requires.fits;
+      sized = omega (arith, a.requires.sized, l.loop.invariant.1.same);
+      whole_bits_lem = a.requires.whole_bits_lem;
+      stream = c.before.before.loop-test.true;
+      wide_enough = omega (arith, (small p a.requires.fits).block);
+      tabled = λ r h. fill_at 0 (λ n. label_source p n) filled r h;
     }
 
-add-i : tie.Need-add-i Inv-loop μ-loop
-add-i c = search needs
+add_i : tie.Need-overflow-add-i invariant-loop decreases_loop
+add_i c = search rules
 
-loop-less : tie.Need-loop-less Inv-loop μ-loop
-loop-less c = search needs
+loop_less : tie.Need-loop-smaller invariant-loop decreases_loop
+loop_less c = search rules
 
-loop-again : tie.Need-loop-again Inv-loop μ-loop
-loop-again c = let k = c .before .before in
-    let l = k .before .before .before .before in
-    let a = l .before .before .before .before .before .before in
-    (search needs, placed-more _ (a .pre .fits) _ _ _ _ _ (k .before .before .before .loop-test .taken) (l .loop .inv .1) (k .stream-coded .ensures))
+loop_again : tie.Need-loop-preserved invariant-loop decreases_loop
+loop_again c = let k = c.before.before in
+    let l = k.before.before.before.before in
+    let a = l.before.before.before.before.before.before in
+    (search rules, placed_more _ a.requires.fits _ _ _ _ _ k.before.before.before.loop-test.true l.loop.invariant.1 k.stream-coded.ensures)
 
-same-length : tie.Need-same-length Inv-loop μ-loop
-same-length c = c .before .loop .inv .1 .same
+same_length : tie.Need-same-length invariant-loop decreases_loop
+same_length c = c.before.loop.invariant.1.same
 
-returns : tie.Need-returns Inv-loop μ-loop
-returns c = placed-end (omega arith) (c .before .loop .inv .1)
+returns : tie.Need-returns invariant-loop decreases_loop
+returns c = placed_end (omega arith) c.before.loop.invariant.1
 
-pub symbol-coded-spec : {M : Type 1} → statement M
-symbol-coded-spec =
+pub symbol_coded_spec : {M : Type 1} → statement M
+symbol_coded_spec =
     tie.close
     (tie.spec
-    Inv-loop
-    μ-loop
-    slice-aggregate-label-sources
-    label-sources-requires
-    loop-holds
-    slice-aggregate-stream-coded
-    stream-coded-requires
-    add-i
-    loop-less
-    loop-again
-    same-length
+    invariant-loop
+    decreases_loop
+    slice_aggregate_label_sources
+    label_sources_requires
+    loop_holds
+    slice_aggregate_stream_coded
+    stream_coded_requires
+    add_i
+    loop_less
+    loop_again
+    same_length
     returns)

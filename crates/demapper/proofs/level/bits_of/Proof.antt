@@ -1,20 +1,20 @@
 -- `bits_of`: a NaN's one pattern, and every other float's own.
 use mathlib.Core.Path.{sym}
-use borrow.Author.Needs.{needs}
-use Rattle·demapper·proofs.proofs.LabelLaws.{real, nan-bits}
-use Rattle·demapper·proofs.proofs.level.bits_of.Statement.{statement}
-use Rattle·demapper·proofs.proofs.level.bits_of.Tie as tie
+use borrow.Author.Rules.{rules}
+use Rattle.demapper.proofs.LabelLaws.{real, nan_bits}
+use Rattle.demapper.proofs.level.bits_of.Statement.{statement}
+use Rattle.demapper.proofs.level.bits_of.Tie as tie
 
 -- `bits_of`: a NaN's one pattern, and every other float's own.
 
 returns : tie.Need-returns
-returns c = sym (nan-bits (c .before .args .x) (c .if1 .taken))
+returns c = sym (nan_bits c.before.args.x c.if1.true)
 
-float-to-bits-result : tie.Need-float-to-bits-result
-float-to-bits-result c = real (c .before .args .x) (c .if1 .left)
+float_to_bits_result : tie.Need-float-to-bits-result
+float_to_bits_result c = real c.before.args.x c.if1.false
 
-returns-2 : tie.Need-returns-2
-returns-2 c = search needs
+returns_2 : tie.Need-returns-2
+returns_2 c = search rules
 
-pub bits-of-spec : {M : Type 1} → statement M
-bits-of-spec = tie.close (tie.spec returns float-to-bits-result returns-2)
+pub bits_of_spec : {M : Type 1} → statement M
+bits_of_spec = tie.close (tie.spec returns float_to_bits_result returns_2)

@@ -1,40 +1,40 @@
 -- `label_keys` is the table of the definition, by the number of bits.
-use mathlib.Core.Path.{_∙_, refl}
+use mathlib.Core.Path.{◌∙◌, refl}
 use mathlib.Core.Bool.{true, false}
-use borrow.Author.Needs.{needs}
-use Rattle·demapper·proofs.proofs.LabelLaws.{keys-by}
-use Rattle·demapper·proofs.proofs.level.label_keys.Statement.{statement}
-use Rattle·demapper·proofs.proofs.level.label_keys.Tie as tie
+use borrow.Author.Rules.{rules}
+use Rattle.demapper.proofs.LabelLaws.{keys_by}
+use Rattle.demapper.proofs.level.label_keys.Statement.{statement}
+use Rattle.demapper.proofs.level.label_keys.Tie as tie
 
-three-bit-keys-requires : tie.Need-three-bit-keys-requires
-three-bit-keys-requires c κs = search needs
+three_bit_keys_requires : tie.Need-three-bit-keys-requires
+three_bit_keys_requires c κs = search rules
 
 returns : tie.Need-returns
-returns c = c .three-bit-keys .ensures ∙ keys-by (c .before .before .args .s) true _ (c .before .if1 .taken) refl
+returns c = c.three-bit-keys.ensures ∙ keys_by c.before.before.args.s true _ c.before.if1.true refl
 
-two-bit-keys-requires : tie.Need-two-bit-keys-requires
-two-bit-keys-requires c κs = search needs
+two_bit_keys_requires : tie.Need-two-bit-keys-requires
+two_bit_keys_requires c κs = search rules
 
-returns-2 : tie.Need-returns-2
-returns-2 c =
-    let a = c .before .before .before in
-    c .two-bit-keys .ensures ∙ keys-by (a .args .s) false true (c .before .before .if1 .left) (c .before .if2 .taken)
+returns_2 : tie.Need-returns-2
+returns_2 c =
+    let a = c.before.before.before in
+    c.two-bit-keys.ensures ∙ keys_by a.args.s false true c.before.before.if1.false c.before.if2.true
 
-one-bit-keys-requires : tie.Need-one-bit-keys-requires
-one-bit-keys-requires c κs = search needs
+one_bit_keys_requires : tie.Need-one-bit-keys-requires
+one_bit_keys_requires c κs = search rules
 
-returns-3 : tie.Need-returns-3
-returns-3 c =
-    let a = c .before .before .before in
-    c .one-bit-keys .ensures ∙ keys-by (a .args .s) false false (c .before .before .if1 .left) (c .before .if2 .left)
+returns_3 : tie.Need-returns-3
+returns_3 c =
+    let a = c.before.before.before in
+    c.one-bit-keys.ensures ∙ keys_by a.args.s false false c.before.before.if1.false c.before.if2.false
 
-pub label-keys-spec : {M : Type 1} → statement M
-label-keys-spec =
+pub label_keys_spec : {M : Type 1} → statement M
+label_keys_spec =
     tie.close
     (tie.spec
-    three-bit-keys-requires
+    three_bit_keys_requires
     returns
-    two-bit-keys-requires
-    returns-2
-    one-bit-keys-requires
-    returns-3)
+    two_bit_keys_requires
+    returns_2
+    one_bit_keys_requires
+    returns_3)

@@ -1,61 +1,60 @@
 -- `level_label`: the label at the pattern's key, where the pattern stands there.
 use native.Mathlib.Omega.{arith}
-use borrow.Author.Needs.{needs}
-use denote.Ref.{now}
-use Rattle·demapper·proofs.proofs.LabelLaws.{levels-sized, labels-sized, label-there, label-other}
-use Rattle·demapper·proofs.proofs.level.level_label.Statement.{statement}
-use Rattle·demapper·proofs.proofs.level.level_label.Tie as tie
+use borrow.Author.Rules.{rules}
+use Rattle.demapper.proofs.LabelLaws.{levels_sized, labels_sized, label_there, label_other}
+use Rattle.demapper.proofs.level.level_label.Statement.{statement}
+use Rattle.demapper.proofs.level.level_label.Tie as tie
 
 -- `level_label`: the label at the pattern's key, where the pattern stands there.
 
-bits-of-requires : tie.Need-bits-of-requires
-bits-of-requires c κs = search needs
+bits_of_requires : tie.Need-bits-of-requires
+bits_of_requires c κs = search rules
 
-key-of-requires : tie.Need-key-of-requires
-key-of-requires c κs = search needs
+key_of_requires : tie.Need-key-of-requires
+key_of_requires c κs = search rules
 
-mul-if1 : tie.Need-mul-if1
-mul-if1 c = search needs
+mul_if1 : tie.Need-overflow-mul-if1
+mul_if1 c = search rules
 
-shared-slice-read-if1 : tie.Need-shared-slice-read-if1
-shared-slice-read-if1 c =
-    let a = c .before .before .before .before .before in
-    omega (arith, c .before .key-of .ensures .1, levels-sized (a .args .s) (now (a .args .levels)) (now (a .args .labels)) (a .pre))
+shared_slice_read_if1 : tie.Need-shared-slice-read-if1
+shared_slice_read_if1 c =
+    let a = c.before.before.before.before.before in
+    omega (arith, c.before.key_of.ensures.1, levels_sized a.args.s a.args.levels.now a.args.labels.now a.requires)
 
-shared-slice-read-result : tie.Need-shared-slice-read-result
-shared-slice-read-result c =
-    let k = c .before .before .before in
-    let a = k .before .before .before .before in
-    omega (arith, k .key-of .ensures .1, labels-sized (a .args .s) (now (a .args .levels)) (now (a .args .labels)) (a .pre))
+shared_slice_read_result : tie.Need-shared-slice-read-result
+shared_slice_read_result c =
+    let k = c.before.before.before in
+    let a = k.before.before.before.before in
+    omega (arith, k.key_of.ensures.1, labels_sized a.args.s a.args.levels.now a.args.labels.now a.requires)
 
-shared-slice-read-result-2 : tie.Need-shared-slice-read-result-2
-shared-slice-read-result-2 c =
-    let a = c .before .before .before .before .before .before .before in
-    omega (arith, labels-sized (a .args .s) (now (a .args .levels)) (now (a .args .labels)) (a .pre))
+shared_slice_read_result_2 : tie.Need-shared-slice-read-result-2
+shared_slice_read_result_2 c =
+    let a = c.before.before.before.before.before.before.before in
+    omega (arith, labels_sized a.args.s a.args.levels.now a.args.labels.now a.requires)
 
 returns : tie.Need-returns
 returns c =
-    let k = c .before .before .before in
-    let a = k .before .before .before .before in
-    label-there (a .args .s) (now (a .args .levels)) (now (a .args .labels)) (a .pre) (a .args .x) _ _ (k .before .bits-of .ensures)
-    (k .key-of .ensures .0) (k .key-of .ensures .1) (c .before .if1 .taken)
+    let k = c.before.before.before in
+    let a = k.before.before.before.before in
+    label_there a.args.s a.args.levels.now a.args.labels.now a.requires a.args.x _ _ k.before.bits_of.ensures
+    k.key_of.ensures.0 k.key_of.ensures.1 c.before.if1.true
 
-returns-2 : tie.Need-returns-2
-returns-2 c =
-    let k = c .before .before .before in
-    let a = k .before .before .before .before in
-    label-other (a .args .s) (now (a .args .levels)) (now (a .args .labels)) (a .pre) (a .args .x) _ _ (k .before .bits-of .ensures)
-    (k .key-of .ensures .0) (c .before .if1 .left)
+returns_2 : tie.Need-returns-2
+returns_2 c =
+    let k = c.before.before.before in
+    let a = k.before.before.before.before in
+    label_other a.args.s a.args.levels.now a.args.labels.now a.requires a.args.x _ _ k.before.bits_of.ensures
+    k.key_of.ensures.0 c.before.if1.false
 
-pub level-label-spec : {M : Type 1} → statement M
-level-label-spec =
+pub level_label_spec : {M : Type 1} → statement M
+level_label_spec =
     tie.close
     (tie.spec
-    bits-of-requires
-    key-of-requires
-    mul-if1
-    shared-slice-read-if1
-    shared-slice-read-result
-    shared-slice-read-result-2
+    bits_of_requires
+    key_of_requires
+    mul_if1
+    shared_slice_read_if1
+    shared_slice_read_result
+    shared_slice_read_result_2
     returns
-    returns-2)
+    returns_2)

@@ -1,46 +1,45 @@
 -- `point_labels` puts the two labels and the test together.
 use native.Mathlib.Omega.{arith}
-use borrow.Author.Needs.{needs}
-use denote.Ref.{now}
-use Rattle·demapper·proofs.proofs.LabelLaws.{labels-sized}
-use Rattle·demapper·proofs.proofs.PointLaws.{point-read}
-use Rattle·demapper·proofs.proofs.point.point_labels.Statement.{statement}
-use Rattle·demapper·proofs.proofs.point.point_labels.Tie as tie
+use borrow.Author.Rules.{rules}
+use Rattle.demapper.proofs.LabelLaws.{labels_sized}
+use Rattle.demapper.proofs.PointLaws.{point_read}
+use Rattle.demapper.proofs.point.point_labels.Statement.{statement}
+use Rattle.demapper.proofs.point.point_labels.Tie as tie
 
 -- `point_labels` puts the two labels and the test together.
 
-either-requires : tie.Need-either-requires
-either-requires c κs = search needs
+either_requires : tie.Need-either-requires
+either_requires c κs = search rules
 
-level-label-requires : tie.Need-level-label-requires
-level-label-requires c κs = search needs
+level_label_requires : tie.Need-level-label-requires
+level_label_requires c κs = search rules
 
-second-label-requires : tie.Need-second-label-requires
-second-label-requires c κs = search needs
+second_label_requires : tie.Need-second-label-requires
+second_label_requires c κs = search rules
 
-shared-slice-read-all : tie.Need-shared-slice-read-all
-shared-slice-read-all c =
-    let a = c .before .before .before .before .before .before in
-    omega (arith, labels-sized (a .args .s) (now (a .args .levels)) (now (a .args .labels)) (a .pre .tables))
+shared_slice_read_all : tie.Need-shared-slice-read-all
+shared_slice_read_all c =
+    let a = c.before.before.before.before.before.before in
+    omega (arith, labels_sized a.args.s a.args.levels.now a.args.labels.now a.requires.tables)
 
-seconds-requires : tie.Need-seconds-requires
-seconds-requires c κs = search needs
+seconds_requires : tie.Need-seconds-requires
+seconds_requires c κs = search rules
 
 returns : tie.Need-returns
 returns c =
-    let k = c .before .before in
-    let l = k .before in
-    let a = l .before .before .before .before in
-    point-read (a .args .bits) (a .args .s) (now (a .args .levels)) (now (a .args .labels)) (a .pre) (a .args .turned) (a .args .x) (a .args .y) _ _ _ _
-    (l .before .either .ensures) (l .level-label .ensures) (k .second-label .ensures) (c .seconds .ensures)
+    let k = c.before.before in
+    let l = k.before in
+    let a = l.before.before.before.before in
+    point_read a.args.bits a.args.s a.args.levels.now a.args.labels.now a.requires a.args.turned a.args.x a.args.y _ _ _ _
+    l.before.either.ensures l.level-label.ensures k.second-label.ensures c.seconds.ensures
 
-pub point-labels-spec : {M : Type 1} → statement M
-point-labels-spec =
+pub point_labels_spec : {M : Type 1} → statement M
+point_labels_spec =
     tie.close
     (tie.spec
-    either-requires
-    level-label-requires
-    second-label-requires
-    shared-slice-read-all
-    seconds-requires
+    either_requires
+    level_label_requires
+    second_label_requires
+    shared_slice_read_all
+    seconds_requires
     returns)

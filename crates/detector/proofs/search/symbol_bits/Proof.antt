@@ -1,219 +1,218 @@
 -- `symbol_bits`: before each place, every point passed is given and its label bits are stored.
-use mathlib.Core.Path.{_≡_, _∙_, sym, subst}
+use mathlib.Core.Path.{◌≡◌, ◌∙◌, sym, subst}
 use mathlib.Core.List.{List}
-use Prim.Native.Nat.{ℕ, _-_, _<_, _≤_}
+use Prim.Native.Nat.{ℕ, ◌-◌, ◌<◌, ◌≤◌}
 use native.Mathlib.Omega.{arith}
-use borrow.Author.Needs.{needs}
+use borrow.Author.Rules.{rules}
 use lib.Dec.{T}
-use denote.Ref.{now}
-use Rattle·laws.specs.Test.{among}
-use Rattle·chain.proofs.Counts.{axis-known}
-use Rattle·chain.specs.Plan.{axisCounts}
-use Rattle·subcarriers.specs.Subcarriers.{placesOf}
-use Rattle·demapper.specs.Asked.{PointTables}
-use Rattle·detector·proofs.proofs.SearchLaws.{RowsHeard, PlacesHeard, rows-none, places-none, places-more, rows-more, answer-all, answer-at}
-use Rattle·detector·proofs.proofs.search.symbol_bits.Statement.{statement}
-use Rattle·detector·proofs.proofs.search.symbol_bits.Tie as tie
+use Rattle.laws.specs.Test.{among}
+use Rattle.chain.proofs.Counts.{axis_known}
+use Rattle.chain.specs.Plan.{axis_counts}
+use Rattle.subcarriers.specs.Subcarriers.{places_of}
+use Rattle.demapper.specs.Asked.{PointTables}
+use Rattle.detector.proofs.SearchLaws.{RowsHeard, PlacesHeard, rows_none, places_none, places_more, rows_more, answer_all, answer_at_lem}
+use Rattle.detector.proofs.search.symbol_bits.Statement.{statement}
+use Rattle.detector.proofs.search.symbol_bits.Tie as tie
 
 -- `symbol_bits`: before each place, every point passed is given and its label bits are stored.
 
-abbrev Inv-loop : tie.InvT-loop
-Inv-loop bits₀ points plan format n s levels labels uses polarity places streams i f₀ bits f =
+abbrev invariant-loop : tie.invariant-loop
+invariant-loop bits₀ points plan format n s levels labels uses polarity places streams i f₀ bits f =
     (f ≤ places) × ((d : List ℕ) → RowsHeard plan points format n i d bits₀ → PlacesHeard plan points format n i f d bits)
 
-abbrev μ-loop : tie.MeasureT-loop
-μ-loop bits₀ points plan format n s levels labels uses polarity places streams i f₀ bits f = places - f
+abbrev decreases_loop : tie.decreases-loop
+decreases_loop bits₀ points plan format n s levels labels uses polarity places streams i f₀ bits f = places - f
 
-abbrev Inv-streams : tie.InvT-streams
-Inv-streams bits₀ points plan format n s levels labels uses polarity places streams i₀ bits i =
+abbrev invariant-streams : tie.invariant-streams
+invariant-streams bits₀ points plan format n s levels labels uses polarity places streams i₀ bits i =
     (i ≤ streams) × RowsHeard plan points format n i bits₀ bits
 
-abbrev μ-streams : tie.MeasureT-streams
-μ-streams bits₀ points plan format n s levels labels uses polarity places streams i₀ bits i = streams - i
+abbrev decreases_streams : tie.decreases-streams
+decreases_streams bits₀ points plan format n s levels labels uses polarity places streams i₀ bits i = streams - i
 
 -- the entry, where all is counted
-abbrev start : tie.After-places-of Inv-loop μ-loop Inv-streams μ-streams → tie.Start Inv-loop μ-loop Inv-streams μ-streams
-start c = c .before .before .before .before .before .before .before .before
+abbrev start : tie.After-places-of invariant-loop decreases_loop invariant-streams decreases_streams → tie.Start invariant-loop decreases_loop invariant-streams decreases_streams
+start c = c.before.before.before.before.before.before.before.before
 
 -- the tables of the symbol's points
-tables : (c : tie.After-places-of Inv-loop μ-loop Inv-streams μ-streams)
-    → PointTables (start c .args .plan .bits) (c .before .before .before .before .before .axis-bits .result)
-    (c .before .before .before .before .level-keys .result) (c .before .before .before .label-keys .result)
+tables : (c : tie.After-places-of invariant-loop decreases_loop invariant-streams decreases_streams)
+    → PointTables (start c).args.plan.bits c.before.before.before.before.before.axis-bits.result
+    c.before.before.before.before.level-keys.result c.before.before.before.label-keys.result
 tables c =
     let a = start c in
-    let s = c .before .before .before .before .before .axis-bits in
+    let s = c.before.before.before.before.before.axis-bits in
     record {
-      known = a .pre .fits .bits;
-      axis-is = s .ensures;
+      known = a.pre.fits.bits;
+      axis_is = s.ensures;
       tables = record {
-        axis = subst (λ (k : ℕ). T (among axisCounts k)) (sym (s .ensures)) (axis-known (a .args .plan .bits) (a .pre .fits .bits));
-        levels-are = c .before .before .before .before .level-keys .ensures;
-        labels-are = c .before .before .before .label-keys .ensures;
+        axis = subst (λ (k : ℕ). T (among axis_counts k)) (sym s.ensures) (axis_known a.args.plan.bits a.pre.fits.bits);
+        levels_are = c.before.before.before.before.level-keys.ensures;
+        labels_are = c.before.before.before.label-keys.ensures;
       };
     }
 
 -- what is known inside the loops: where the search stands
-abbrev counted : tie.At-loop Inv-loop μ-loop Inv-streams μ-streams → tie.After-places-of Inv-loop μ-loop Inv-streams μ-streams
-counted c = c .before .before .before
+abbrev counted : tie.At-loop invariant-loop decreases_loop invariant-streams decreases_streams → tie.After-places-of invariant-loop decreases_loop invariant-streams decreases_streams
+counted c = c.before.before.before
 
-heard : (c : tie.At-loop Inv-loop μ-loop Inv-streams μ-streams) → let a = start (counted c) in
-    PlacesHeard (a .args .plan) (now (a .args .points)) (a .args .format) (a .args .n) (c .before .before .streams .i) (c .loop .f) (now (a .args .bits)) (c .loop .bits)
-heard c = c .loop .inv .1 (now (start (counted c) .args .bits)) (c .before .before .streams .inv .1)
+heard : (c : tie.At-loop invariant-loop decreases_loop invariant-streams decreases_streams) → let a = start (counted c) in
+    PlacesHeard a.args.plan a.args.points.now a.args.format a.args.n c.before.before.streams.i c.loop.f a.args.bits.now c.loop.bits
+heard c = c.loop.invariant.1 (start (counted c)).args.bits.now c.before.before.streams.invariant.1
 
 -- a place inside the width's
-inside : (c : tie.In-loop Inv-loop μ-loop Inv-streams μ-streams) → c .before .loop .f < placesOf (start (counted (c .before)) .args .plan .width)
-inside c = omega (arith, c .loop-test .taken, counted (c .before) .places-of .ensures)
+inside : (c : tie.In-loop invariant-loop decreases_loop invariant-streams decreases_streams) → c.before.loop.f < places_of (start (counted c.before)).args.plan.width
+inside c = omega (arith, c.loop-test.true, (counted c.before).places_of.ensures)
 
-axis-bits-requires : tie.Need-axis-bits-requires Inv-loop μ-loop Inv-streams μ-streams
-axis-bits-requires c κs = tt
+axis_bits_requires : tie.Need-axis-bits-requires invariant-loop decreases_loop invariant-streams decreases_streams
+axis_bits_requires c κs = tt
 
-level-keys-requires : tie.Need-level-keys-requires Inv-loop μ-loop Inv-streams μ-streams
-level-keys-requires c κs = tt
+level_keys_requires : tie.Need-level-keys-requires invariant-loop decreases_loop invariant-streams decreases_streams
+level_keys_requires c κs = tt
 
-label-keys-requires : tie.Need-label-keys-requires Inv-loop μ-loop Inv-streams μ-streams
-label-keys-requires c κs = tt
+label_keys_requires : tie.Need-label-keys-requires invariant-loop decreases_loop invariant-streams decreases_streams
+label_keys_requires c κs = tt
 
-uses-of-requires : tie.Need-uses-of-requires Inv-loop μ-loop Inv-streams μ-streams
-uses-of-requires c κs = c .before .before .before .before .before .pre .fits .width
+uses_of_requires : tie.Need-uses-of-requires invariant-loop decreases_loop invariant-streams decreases_streams
+uses_of_requires c κs = c.before.before.before.before.before.requires.fits.width
 
-polarity-bit-requires : tie.Need-polarity-bit-requires Inv-loop μ-loop Inv-streams μ-streams
-polarity-bit-requires c κs = c .before .before .before .before .before .before .pre .near
+polarity_bit_requires : tie.Need-polarity-bit-requires invariant-loop decreases_loop invariant-streams decreases_streams
+polarity_bit_requires c κs = c.before.before.before.before.before.before.requires.near
 
-places-of-requires : tie.Need-places-of-requires Inv-loop μ-loop Inv-streams μ-streams
-places-of-requires c κs = tt
+places_of_requires : tie.Need-places-of-requires invariant-loop decreases_loop invariant-streams decreases_streams
+places_of_requires c κs = tt
 
-streams-holds : tie.Need-streams-holds Inv-loop μ-loop Inv-streams μ-streams
-streams-holds c =
+streams_holds : tie.Need-streams-init invariant-loop decreases_loop invariant-streams decreases_streams
+streams_holds c =
     let a = start c in
-    (omega arith, rows-none (a .args .plan) (now (a .args .points)) (a .args .format) (a .args .n) (a .pre .fits) (now (a .args .bits)))
+    (omega arith, rows_none a.args.plan a.args.points.now a.args.format a.args.n a.pre.fits a.args.bits.now)
 
-loop-holds : tie.Need-loop-holds Inv-loop μ-loop Inv-streams μ-streams
-loop-holds c =
-    let a = start (c .before .before) in (
+loop_holds : tie.Need-loop-init invariant-loop decreases_loop invariant-streams decreases_streams
+loop_holds c =
+    let a = start c.before.before in (
       omega arith,
       λ d rows.
-          places-none (a .args .plan) (now (a .args .points)) (a .args .format) (a .args .n) (a .pre .fits) (c .before .streams .i) d _ rows,
+          places_none a.args.plan a.args.points.now a.args.format a.args.n a.pre.fits c.before.streams.i d _ rows,
     )
 
-slice-aggregate-hear-place :
-    tie.Need-slice-aggregate-hear-place Inv-loop μ-loop Inv-streams μ-streams
-slice-aggregate-hear-place c = search needs
+slice_aggregate_hear_place :
+    tie.Need-slice-aggregate-hear-place invariant-loop decreases_loop invariant-streams decreases_streams
+slice_aggregate_hear_place c = search rules
 
-slice-aggregate-hear-place-2 :
-    tie.Need-slice-aggregate-hear-place-2 Inv-loop μ-loop Inv-streams μ-streams
-slice-aggregate-hear-place-2 c = search needs
+slice_aggregate_hear_place_2 :
+    tie.Need-slice-aggregate-hear-place-2 invariant-loop decreases_loop invariant-streams decreases_streams
+slice_aggregate_hear_place_2 c = search rules
 
-slice-aggregate-hear-place-3 :
-    tie.Need-slice-aggregate-hear-place-3 Inv-loop μ-loop Inv-streams μ-streams
-slice-aggregate-hear-place-3 c = search needs
+slice_aggregate_hear_place_3 :
+    tie.Need-slice-aggregate-hear-place-3 invariant-loop decreases_loop invariant-streams decreases_streams
+slice_aggregate_hear_place_3 c = search rules
 
-hear-place-requires : tie.Need-hear-place-requires Inv-loop μ-loop Inv-streams μ-streams
-hear-place-requires c κs =
-    let inner = c .before .before .before .before in
-    let l = inner .before in
+hear_place_requires : tie.Need-hear-place-requires invariant-loop decreases_loop invariant-streams decreases_streams
+hear_place_requires c κs =
+    let inner = c.before.before.before.before in
+    let l = inner.before in
     let k = counted l in
     let a = start k in
     record {
-      fits = a .pre .fits;
+      fits = a.pre.fits;
       tables = tables k;
-      numbered = k .before .before .uses-of .ensures;
-      stream = l .before .if1 .left;
+      numbered = k.before.before.uses-of.ensures;
+      stream = l.before.if1.false;
       place = inside inner;
-      room = omega (arith, a .pre .room, heard l .rows .same);
-      whole-points = a .pre .whole-points;
-      near = a .pre .near;
-      polar = k .before .polarity-bit .ensures .1;
+      room = omega (arith, a.pre.room, (heard l).rows.same);
+      whole_points = a.pre.whole_points;
+      near = a.pre.near;
+      polar = k.before.polarity-bit.ensures.1;
     }
 
-add-f : tie.Need-add-f Inv-loop μ-loop Inv-streams μ-streams
-add-f c = search needs
+add_f : tie.Need-overflow-add-f invariant-loop decreases_loop invariant-streams decreases_streams
+add_f c = search rules
 
-loop-less : tie.Need-loop-less Inv-loop μ-loop Inv-streams μ-streams
-loop-less c = search needs
+loop_less : tie.Need-loop-smaller invariant-loop decreases_loop invariant-streams decreases_streams
+loop_less c = search rules
 
-loop-again : tie.Need-loop-again Inv-loop μ-loop Inv-streams μ-streams
-loop-again c =
-    let told = c .before .before .before in
-    let inner = told .before .before .before .before .before in
-    let l = inner .before in
+loop_again : tie.Need-loop-preserved invariant-loop decreases_loop invariant-streams decreases_streams
+loop_again c =
+    let told = c.before.before.before in
+    let inner = told.before.before.before.before.before in
+    let l = inner.before in
     let k = counted l in
     let a = start k in (
-      omega (arith, inner .loop-test .taken),
+      omega (arith, inner.loop-test.true),
       λ d rows.
-          places-more (a .args .plan) (now (a .args .points)) (a .args .format) (a .args .n) (a .pre .fits) (l .before .before .streams .i) (l .loop .f) d
-          (l .loop .bits) _ (inside inner) (l .loop .inv .1 d rows) (told .hear-place .ensures .1)
-          (sym (told .hear-place .ensures .0 (a .args .format) (k .before .polarity-bit .ensures .0)) ∙ c .if2 .taken),
+          places_more a.args.plan a.args.points.now a.args.format a.args.n a.pre.fits l.before.before.streams.i l.loop.f d
+          l.loop.bits _ (inside inner) (l.loop.invariant.1 d rows) told.hear-place.ensures.1
+          (sym (told.hear-place.ensures.0 a.args.format k.before.polarity-bit.ensures.0) ∙ c.if2.true),
     )
 
-add-i : tie.Need-add-i Inv-loop μ-loop Inv-streams μ-streams
-add-i c = search needs
+add_i : tie.Need-overflow-add-i invariant-loop decreases_loop invariant-streams decreases_streams
+add_i c = search rules
 
-streams-less : tie.Need-streams-less Inv-loop μ-loop Inv-streams μ-streams
-streams-less c = search needs
+streams_less : tie.Need-streams-smaller invariant-loop decreases_loop invariant-streams decreases_streams
+streams_less c = search rules
 
-streams-again : tie.Need-streams-again Inv-loop μ-loop Inv-streams μ-streams
-streams-again c =
-    let l = c .before in
+streams_again : tie.Need-streams-preserved invariant-loop decreases_loop invariant-streams decreases_streams
+streams_again c =
+    let l = c.before in
     let k = counted l in
     let a = start k in
-    let all : l .loop .f ≡ placesOf (a .args .plan .width) = omega (arith, l .loop .inv .0, c .loop-test .left, k .places-of .ensures) in (
-      omega (arith, l .before .if1 .left),
-      rows-more (a .args .plan) (now (a .args .points)) (a .args .format) (a .args .n) (a .pre .fits) (l .before .before .streams .i) (l .loop .f) _ _ all
+    let all : l.loop.f ≡ places_of a.args.plan.width = omega (arith, l.loop.invariant.0, c.loop-test.false, k.places_of.ensures) in (
+      omega (arith, l.before.if1.false),
+      rows_more a.args.plan a.args.points.now a.args.format a.args.n a.pre.fits l.before.before.streams.i l.loop.f _ _ all
           (heard l),
     )
 
-same-length : tie.Need-same-length Inv-loop μ-loop Inv-streams μ-streams
-same-length c = c .before .streams .inv .1 .same
+same_length : tie.Need-same-length invariant-loop decreases_loop invariant-streams decreases_streams
+same_length c = c.before.streams.invariant.1.same
 
-returns : tie.Need-returns Inv-loop μ-loop Inv-streams μ-streams
+returns : tie.Need-returns invariant-loop decreases_loop invariant-streams decreases_streams
 returns c =
-    let a = start (c .before .before) in
-    answer-all (a .args .plan) (now (a .args .points)) (a .args .format) (a .args .n) (a .pre .fits) (c .before .streams .i) _ _ (c .if1 .taken)
-    (c .before .streams .inv .1)
+    let a = start c.before.before in
+    answer_all a.args.plan a.args.points.now a.args.format a.args.n a.pre.fits c.before.streams.i _ _ c.if1.true
+    c.before.streams.invariant.1
 
-same-length-2 : tie.Need-same-length-2 Inv-loop μ-loop Inv-streams μ-streams
-same-length-2 c =
-    let told = c .before .before .before in
-    told .hear-place .kept .0 ∙ heard (told .before .before .before .before .before .before) .rows .same
+same_length_2 : tie.Need-same-length-2 invariant-loop decreases_loop invariant-streams decreases_streams
+same_length_2 c =
+    let told = c.before.before.before in
+    told.hear-place.auto.0 ∙ (heard told.before.before.before.before.before.before).rows.same
 
-returns-2 : tie.Need-returns-2 Inv-loop μ-loop Inv-streams μ-streams
-returns-2 c =
-    let told = c .before .before .before in
-    let inner = told .before .before .before .before .before in
-    let l = inner .before in
+returns_2 : tie.Need-returns-2 invariant-loop decreases_loop invariant-streams decreases_streams
+returns_2 c =
+    let told = c.before.before.before in
+    let inner = told.before.before.before.before.before in
+    let l = inner.before in
     let k = counted l in
     let a = start k in
-    answer-at (a .args .plan) (now (a .args .points)) (a .args .format) (a .args .n) (a .pre .fits) (l .before .before .streams .i) (l .loop .f) _
-    (l .loop .bits) _ (l .before .if1 .left) (inside inner) (heard l) (told .hear-place .ensures .1)
-    (sym (told .hear-place .ensures .0 (a .args .format) (k .before .polarity-bit .ensures .0)) ∙ c .if2 .left)
+    answer_at_lem a.args.plan a.args.points.now a.args.format a.args.n a.pre.fits l.before.before.streams.i l.loop.f _
+    l.loop.bits _ l.before.if1.false (inside inner) (heard l) told.hear-place.ensures.1
+    (sym (told.hear-place.ensures.0 a.args.format k.before.polarity-bit.ensures.0) ∙ c.if2.false)
 
-pub symbol-bits-spec : {M : Type 1} → statement M
-symbol-bits-spec =
+pub symbol_bits_spec : {M : Type 1} → statement M
+symbol_bits_spec =
     tie.close
     (tie.spec
-    Inv-loop
-    μ-loop
-    Inv-streams
-    μ-streams
-    axis-bits-requires
-    level-keys-requires
-    label-keys-requires
-    uses-of-requires
-    polarity-bit-requires
-    places-of-requires
-    streams-holds
-    loop-holds
-    slice-aggregate-hear-place
-    slice-aggregate-hear-place-2
-    slice-aggregate-hear-place-3
-    hear-place-requires
-    add-f
-    loop-less
-    loop-again
-    add-i
-    streams-less
-    streams-again
-    same-length
+    invariant-loop
+    decreases_loop
+    invariant-streams
+    decreases_streams
+    axis_bits_requires
+    level_keys_requires
+    label_keys_requires
+    uses_of_requires
+    polarity_bit_requires
+    places_of_requires
+    streams_holds
+    loop_holds
+    slice_aggregate_hear_place
+    slice_aggregate_hear_place_2
+    slice_aggregate_hear_place_3
+    hear_place_requires
+    add_f
+    loop_less
+    loop_again
+    add_i
+    streams_less
+    streams_again
+    same_length
     returns
-    same-length-2
-    returns-2)
+    same_length_2
+    returns_2)

@@ -1,55 +1,55 @@
 -- `encoder::sums::sums_a`: the loop's store of each sum A fills the sums from 0 on. Assumes nothing.
-use Prim.Native.Nat.{_-_, _≤_}
+use Prim.Native.Nat.{◌-◌, ◌≤◌}
 use native.Mathlib.Omega.{arith}
-use lib.ListN.{getD}
-use borrow.Author.Needs.{needs}
-use Rattle·laws.specs.Filled.{Filled}
-use Rattle·laws.proofs.Filling.{fill-none, fill-more, fill-end}
-use Rattle·encoder·specs.specs.Sums.{xorA}
-use Rattle·encoder·proofs.proofs.sums.sums_a.Statement.{statement}
-use Rattle·encoder·proofs.proofs.sums.sums_a.Tie as tie
+use lib.ListN.{get_or}
+use borrow.Author.Rules.{rules}
+use Rattle.laws.specs.Filled.{Filled}
+use Rattle.laws.proofs.Filling.{fill_none, fill_more, fill_end}
+use Rattle.encoder.specs.Sums.{xor_a}
+use Rattle.encoder.proofs.sums.sums_a.Statement.{statement}
+use Rattle.encoder.proofs.sums.sums_a.Tie as tie
 
-abbrev Inv-loop : tie.InvT-loop
-Inv-loop sums₀ line encoders count j₀ sums j = (j ≤ count) × Filled 0 0 (λ k. xorA (λ e. getD line e 0) encoders k) j sums₀ sums
+abbrev invariant-loop : tie.invariant-loop
+invariant-loop sums₀ line encoders count j₀ sums j = (j ≤ count) × Filled 0 0 (λ k. xor_a (λ e. get_or line e 0) encoders k) j sums₀ sums
 
-abbrev μ-loop : tie.MeasureT-loop
-μ-loop sums₀ line encoders count j₀ sums j = count - j
+abbrev decreases_loop : tie.decreases-loop
+decreases_loop sums₀ line encoders count j₀ sums j = count - j
 
-returns : tie.Need-returns Inv-loop μ-loop
-returns c = fill-end _ _ _ (omega arith) (c .before .loop .inv .1)
+returns : tie.Need-returns invariant-loop decreases_loop
+returns c = fill_end _ _ _ (omega arith) c.before.loop.invariant.1
 
-loop-again : tie.Need-loop-again Inv-loop μ-loop
-loop-again c = (search needs, fill-more _ _ _ _ _ _ _ _ (omega arith) (omega arith) (c .sum-a .ensures) (c .before .before .loop .inv .1))
+loop_again : tie.Need-loop-preserved invariant-loop decreases_loop
+loop_again c = (search rules, fill_more _ _ _ _ _ _ _ _ (omega arith) (omega arith) c.sum-a.ensures c.before.before.loop.invariant.1)
 
-loop-holds : tie.Need-loop-holds Inv-loop μ-loop
-loop-holds c = (search needs, fill-none _ _ _ _)
+loop_holds : tie.Need-loop-init invariant-loop decreases_loop
+loop_holds c = (search rules, fill_none _ _ _ _)
 
-sum-a-requires : tie.Need-sum-a-requires Inv-loop μ-loop
-sum-a-requires c κs = search needs
+sum_a_requires : tie.Need-sum-a-requires invariant-loop decreases_loop
+sum_a_requires c κs = search rules
 
-slice-write-sums : tie.Need-slice-write-sums Inv-loop μ-loop
-slice-write-sums c = search needs
+slice_write_sums : tie.Need-slice-write-sums invariant-loop decreases_loop
+slice_write_sums c = search rules
 
-add-j : tie.Need-add-j Inv-loop μ-loop
-add-j c = search needs
+add_j : tie.Need-overflow-add-j invariant-loop decreases_loop
+add_j c = search rules
 
-loop-less : tie.Need-loop-less Inv-loop μ-loop
-loop-less c = search needs
+loop_less : tie.Need-loop-smaller invariant-loop decreases_loop
+loop_less c = search rules
 
-same-length : tie.Need-same-length Inv-loop μ-loop
-same-length c = search needs
+same_length : tie.Need-same-length invariant-loop decreases_loop
+same_length c = search rules
 
-pub sums-a-spec : {M : Type 1} → statement M
-sums-a-spec =
+pub sums_a_spec : {M : Type 1} → statement M
+sums_a_spec =
     tie.close
     (tie.spec
-    Inv-loop
-    μ-loop
-    loop-holds
-    sum-a-requires
-    slice-write-sums
-    add-j
-    loop-less
-    loop-again
-    same-length
+    invariant-loop
+    decreases_loop
+    loop_holds
+    sum_a_requires
+    slice_write_sums
+    add_j
+    loop_less
+    loop_again
+    same_length
     returns)

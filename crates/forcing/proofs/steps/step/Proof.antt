@@ -1,45 +1,45 @@
 -- `step` puts the input that a coded bit forces, and pushes it on the history.
-use mathlib.Core.Path.{_∙_, ap}
+use mathlib.Core.Path.{◌∙◌, ap}
 use lib.ListN.{set}
-use borrow.Author.Needs.{needs}
-use Rattle·chain.specs.Decoder.{historyWith}
-use Rattle·forcing·proofs.proofs.StepLaws.{sum-by}
-use Rattle·forcing·proofs.proofs.steps.step.Statement.{statement}
-use Rattle·forcing·proofs.proofs.steps.step.Tie as tie
+use borrow.Author.Rules.{rules}
+use Rattle.chain.specs.Decoder.{history_with}
+use Rattle.forcing.proofs.StepLaws.{sum_by}
+use Rattle.forcing.proofs.steps.step.Statement.{statement}
+use Rattle.forcing.proofs.steps.step.Tie as tie
 
-shared-slice-read-sum-after : tie.Need-shared-slice-read-sum-after
-shared-slice-read-sum-after c = search needs
+shared_slice_read_sum_after : tie.Need-shared-slice-read-sum-after
+shared_slice_read_sum_after c = search rules
 
-sum-after-requires : tie.Need-sum-after-requires
-sum-after-requires c κs = search needs
+sum_after_requires : tie.Need-sum-after-requires
+sum_after_requires c κs = search rules
 
-slice-write-inputs : tie.Need-slice-write-inputs
-slice-write-inputs c = search needs
+slice_write_inputs : tie.Need-slice-write-inputs
+slice_write_inputs c = search rules
 
-push-requires : tie.Need-push-requires
-push-requires c κs = search needs
+push_requires : tie.Need-push-requires
+push_requires c κs = search rules
 
-same-length : tie.Need-same-length
-same-length c = search needs
+same_length : tie.Need-same-length
+same_length c = search rules
 
 returns : tie.Need-returns
 returns c =
-    let a = c .before .before .before .before .before .args in
-    let s = c .before .sum-after .ensures in
-    let e = sum-by (a .m) (a .history) _ _ (s .0) (s .1) in
+    let a = c.before.before.before.before.before.args in
+    let s = c.before.sum-after.ensures in
+    let e = sum_by a.m a.history _ _ s.0 s.1 in
     record {
-      moved = c .push .ensures .0 ∙ ap (historyWith (a .history)) e;
-      small = c .push .ensures .1;
-      written = ap (set (a .inputs .now) (a .to)) e;
+      moved = c.push.ensures.0 ∙ ap (history_with a.history) e;
+      small = c.push.ensures.1;
+      written = ap (set a.inputs.now a.to) e;
     }
 
-pub step-spec : {M : Type 1} → statement M
-step-spec =
+pub step_spec : {M : Type 1} → statement M
+step_spec =
     tie.close
     (tie.spec
-    shared-slice-read-sum-after
-    sum-after-requires
-    slice-write-inputs
-    push-requires
-    same-length
+    shared_slice_read_sum_after
+    sum_after_requires
+    slice_write_inputs
+    push_requires
+    same_length
     returns)

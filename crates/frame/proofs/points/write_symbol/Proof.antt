@@ -1,51 +1,50 @@
 -- `write_symbol`: the half labels, and the points from them.
-use denote.Ref.{now}
-use borrow.Author.Needs.{needs}
-use Rattle·frame·proofs.proofs.PointsLaws.{symbol-asked, symbol-filled}
-use Rattle·frame·proofs.proofs.points.write_symbol.Statement.{statement}
-use Rattle·frame·proofs.proofs.points.write_symbol.Tie as tie
+use borrow.Author.Rules.{rules}
+use Rattle.frame.proofs.PointsLaws.{symbol_asked, symbol_filled}
+use Rattle.frame.proofs.points.write_symbol.Statement.{statement}
+use Rattle.frame.proofs.points.write_symbol.Tie as tie
 
 abbrev labelled : tie.After-plan-of → tie.After-labels-of
-labelled c = c .before .before .before .before
+labelled c = c.before.before.before.before
 
 abbrev start : tie.After-plan-of → tie.Start
-start c = labelled c .before .before .before .before
+start c = (labelled c).before.before.before.before
 
 returns : tie.Need-returns
 returns c =
-    let f = c .before .before in
-    let a = start (f .before) in
-    symbol-filled (a .args .s) (now (a .args .payload)) (a .args .n) _ (labelled (f .before) .labels-of .ensures) _ (f .before .plan-of .ensures)
-    (a .pre .in-frame .right) (now (a .args .out)) _ (f .symbol-points .ensures)
+    let f = c.before.before in
+    let a = start f.before in
+    symbol_filled a.args.s a.args.payload.now a.args.n _ (labelled f.before).labels-of.ensures _ f.before.plan-of.ensures
+    a.pre.in_frame.right a.args.out.now _ f.symbol-points.ensures
 
-slice-aggregate-labels-of : tie.Need-slice-aggregate-labels-of
-slice-aggregate-labels-of c = search needs
+slice_aggregate_labels_of : tie.Need-slice-aggregate-labels-of
+slice_aggregate_labels_of c = search rules
 
-labels-of-requires : tie.Need-labels-of-requires
-labels-of-requires c κs = search needs
+labels_of_requires : tie.Need-labels-of-requires
+labels_of_requires c κs = search rules
 
-slice-aggregate-symbol-points : tie.Need-slice-aggregate-symbol-points
-slice-aggregate-symbol-points c = search needs
+slice_aggregate_symbol_points : tie.Need-slice-aggregate-symbol-points
+slice_aggregate_symbol_points c = search rules
 
-plan-of-requires : tie.Need-plan-of-requires
-plan-of-requires c κs = search needs
+plan_of_requires : tie.Need-plan-of-requires
+plan_of_requires c κs = search rules
 
-symbol-points-requires : tie.Need-symbol-points-requires
-symbol-points-requires c κs =
+symbol_points_requires : tie.Need-symbol-points-requires
+symbol_points_requires c κs =
     let a = start c in
-    symbol-asked (a .args .s) (now (a .args .payload)) (a .args .n) _ (labelled c .labels-of .ensures) _ (c .plan-of .ensures) (now (a .args .out)) (a .pre)
+    symbol_asked a.args.s a.args.payload.now a.args.n _ (labelled c).labels-of.ensures _ c.plan-of.ensures a.args.out.now a.pre
 
-same-length : tie.Need-same-length
-same-length c = search needs
+same_length : tie.Need-same-length
+same_length c = search rules
 
-pub write-symbol-spec : {M : Type 1} → statement M
-write-symbol-spec =
+pub write_symbol_spec : {M : Type 1} → statement M
+write_symbol_spec =
     tie.close
     (tie.spec
-    slice-aggregate-labels-of
-    labels-of-requires
-    slice-aggregate-symbol-points
-    plan-of-requires
-    symbol-points-requires
-    same-length
+    slice_aggregate_labels_of
+    labels_of_requires
+    slice_aggregate_symbol_points
+    plan_of_requires
+    symbol_points_requires
+    same_length
     returns)

@@ -1,57 +1,57 @@
 -- `copy_bytes`: before each turn, the bytes passed are the other slice's.
 use mathlib.Core.Path.{refl}
-use Prim.Native.Nat.{_-_, _≤_}
+use Prim.Native.Nat.{◌-◌, ◌≤◌}
 use native.Mathlib.Omega.{arith}
-use borrow.Author.Needs.{needs}
-use lib.ListN.{getD}
-use Rattle·laws.specs.Filled.{Filled}
-use Rattle·laws.proofs.Filling.{fill-none, fill-more, fill-end}
-use Rattle·frame_reader·proofs.proofs.read.copy_bytes.Statement.{statement}
-use Rattle·frame_reader·proofs.proofs.read.copy_bytes.Tie as tie
+use borrow.Author.Rules.{rules}
+use lib.ListN.{get_or}
+use Rattle.laws.specs.Filled.{Filled}
+use Rattle.laws.proofs.Filling.{fill_none, fill_more, fill_end}
+use Rattle.frame_reader.proofs.read.copy_bytes.Statement.{statement}
+use Rattle.frame_reader.proofs.read.copy_bytes.Tie as tie
 
-abbrev Inv-loop : tie.InvT-loop
-Inv-loop to₀ from count i₀ to i = (i ≤ count) × Filled 0 0 (λ k. getD from k 0) i to₀ to
+abbrev invariant-loop : tie.invariant-loop
+invariant-loop to₀ from count i₀ to i = (i ≤ count) × Filled 0 0 (λ k. get_or from k 0) i to₀ to
 
-abbrev μ-loop : tie.MeasureT-loop
-μ-loop to₀ from count i₀ to i = count - i
+abbrev decreases_loop : tie.decreases-loop
+decreases_loop to₀ from count i₀ to i = count - i
 
-loop-holds : tie.Need-loop-holds Inv-loop μ-loop
-loop-holds c = (omega arith, fill-none 0 0 _ _)
+loop_holds : tie.Need-loop-init invariant-loop decreases_loop
+loop_holds c = (omega arith, fill_none 0 0 _ _)
 
-shared-slice-read-to : tie.Need-shared-slice-read-to Inv-loop μ-loop
-shared-slice-read-to c = search needs
+shared_slice_read_to : tie.Need-shared-slice-read-to invariant-loop decreases_loop
+shared_slice_read_to c = search rules
 
-slice-write-to : tie.Need-slice-write-to Inv-loop μ-loop
-slice-write-to c = search needs
+slice_write_to : tie.Need-slice-write-to invariant-loop decreases_loop
+slice_write_to c = search rules
 
-add-i : tie.Need-add-i Inv-loop μ-loop
-add-i c = search needs
+add_i : tie.Need-overflow-add-i invariant-loop decreases_loop
+add_i c = search rules
 
-loop-less : tie.Need-loop-less Inv-loop μ-loop
-loop-less c = search needs
+loop_less : tie.Need-loop-smaller invariant-loop decreases_loop
+loop_less c = search rules
 
-loop-again : tie.Need-loop-again Inv-loop μ-loop
-loop-again c =
-    let l = c .before .before in
-    (omega (arith, c .before .loop-test .taken), fill-more 0 0 _ (l .loop .i) _ _ _ _ (omega arith) (omega (arith, l .before .pre)) refl (l .loop .inv .1))
+loop_again : tie.Need-loop-preserved invariant-loop decreases_loop
+loop_again c =
+    let l = c.before.before in
+    (omega (arith, c.before.loop-test.true), fill_more 0 0 _ l.loop.i _ _ _ _ (omega arith) (omega (arith, l.before.requires)) refl l.loop.invariant.1)
 
-same-length : tie.Need-same-length Inv-loop μ-loop
-same-length c = search needs
+same_length : tie.Need-same-length invariant-loop decreases_loop
+same_length c = search rules
 
-returns : tie.Need-returns Inv-loop μ-loop
-returns c = fill-end 0 0 _ (omega (arith, c .loop-test .left)) (c .before .loop .inv .1)
+returns : tie.Need-returns invariant-loop decreases_loop
+returns c = fill_end 0 0 _ (omega (arith, c.loop-test.false)) c.before.loop.invariant.1
 
-pub copy-bytes-spec : {M : Type 1} → statement M
-copy-bytes-spec =
+pub copy_bytes_spec : {M : Type 1} → statement M
+copy_bytes_spec =
     tie.close
     (tie.spec
-    Inv-loop
-    μ-loop
-    loop-holds
-    shared-slice-read-to
-    slice-write-to
-    add-i
-    loop-less
-    loop-again
-    same-length
+    invariant-loop
+    decreases_loop
+    loop_holds
+    shared_slice_read_to
+    slice_write_to
+    add_i
+    loop_less
+    loop_again
+    same_length
     returns)

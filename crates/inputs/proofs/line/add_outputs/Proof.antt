@@ -1,73 +1,73 @@
 -- `add_outputs` stores one bit a turn.
 use mathlib.Core.Path.{refl}
-use Prim.Native.Nat.{_+_, _-_, _≤_}
+use Prim.Native.Nat.{◌+◌, ◌-◌, ◌≤◌}
 use native.Mathlib.Omega.{arith}
-use lib.Bits.{bitXor}
-use lib.ListN.{getD}
-use Rattle·laws.specs.Filled.{Filled}
-use Rattle·laws.proofs.Filling.{fill-none, fill-more, fill-end}
-use borrow.Author.Needs.{needs}
-use Rattle·inputs·proofs.proofs.line.add_outputs.Statement.{statement}
-use Rattle·inputs·proofs.proofs.line.add_outputs.Tie as tie
+use lib.Bits.{bit_xor}
+use lib.ListN.{get_or}
+use Rattle.laws.specs.Filled.{Filled}
+use Rattle.laws.proofs.Filling.{fill_none, fill_more, fill_end}
+use borrow.Author.Rules.{rules}
+use Rattle.inputs.proofs.line.add_outputs.Statement.{statement}
+use Rattle.inputs.proofs.line.add_outputs.Tie as tie
 
-abbrev Inv-loop : tie.InvT-loop
-Inv-loop line₀ raw outputs to at from count t₀ line t =
-    (t ≤ count) × Filled 0 to (λ k. bitXor (getD raw (at + k) 0) (getD outputs (from + k) 0)) t line₀ line
+abbrev invariant-loop : tie.invariant-loop
+invariant-loop line₀ raw outputs to at from count t₀ line t =
+    (t ≤ count) × Filled 0 to (λ k. bit_xor (get_or raw (at + k) 0) (get_or outputs (from + k) 0)) t line₀ line
 
-abbrev μ-loop : tie.MeasureT-loop
-μ-loop line₀ raw outputs to at from count t₀ line t = count - t
+abbrev decreases_loop : tie.decreases-loop
+decreases_loop line₀ raw outputs to at from count t₀ line t = count - t
 
-loop-holds : tie.Need-loop-holds Inv-loop μ-loop
-loop-holds c = (omega arith, fill-none _ _ _ _)
+loop_holds : tie.Need-loop-init invariant-loop decreases_loop
+loop_holds c = (omega arith, fill_none _ _ _ _)
 
-add-line : tie.Need-add-line Inv-loop μ-loop
-add-line c = search needs
+add_line : tie.Need-overflow-add-line invariant-loop decreases_loop
+add_line c = search rules
 
-shared-slice-read-line : tie.Need-shared-slice-read-line Inv-loop μ-loop
-shared-slice-read-line c = search needs
+shared_slice_read_line : tie.Need-shared-slice-read-line invariant-loop decreases_loop
+shared_slice_read_line c = search rules
 
-add-line-2 : tie.Need-add-line-2 Inv-loop μ-loop
-add-line-2 c = search needs
+add_line_2 : tie.Need-overflow-add-line-2 invariant-loop decreases_loop
+add_line_2 c = search rules
 
-shared-slice-read-line-2 : tie.Need-shared-slice-read-line-2 Inv-loop μ-loop
-shared-slice-read-line-2 c = search needs
+shared_slice_read_line_2 : tie.Need-shared-slice-read-line-2 invariant-loop decreases_loop
+shared_slice_read_line_2 c = search rules
 
-add-line-3 : tie.Need-add-line-3 Inv-loop μ-loop
-add-line-3 c = search needs
+add_line_3 : tie.Need-overflow-add-line-3 invariant-loop decreases_loop
+add_line_3 c = search rules
 
-slice-write-line : tie.Need-slice-write-line Inv-loop μ-loop
-slice-write-line c = search needs
+slice_write_line : tie.Need-slice-write-line invariant-loop decreases_loop
+slice_write_line c = search rules
 
-add-t : tie.Need-add-t Inv-loop μ-loop
-add-t c = search needs
+add_t : tie.Need-overflow-add-t invariant-loop decreases_loop
+add_t c = search rules
 
-loop-less : tie.Need-loop-less Inv-loop μ-loop
-loop-less c = search needs
+loop_less : tie.Need-loop-smaller invariant-loop decreases_loop
+loop_less c = search rules
 
-loop-again : tie.Need-loop-again Inv-loop μ-loop
-loop-again c = (search needs, fill-more _ _ _ _ _ _ _ _ (omega arith) (omega arith) refl (c .before .before .before .loop .inv .1))
+loop_again : tie.Need-loop-preserved invariant-loop decreases_loop
+loop_again c = (search rules, fill_more _ _ _ _ _ _ _ _ (omega arith) (omega arith) refl c.before.before.before.loop.invariant.1)
 
-same-length : tie.Need-same-length Inv-loop μ-loop
-same-length c = search needs
+same_length : tie.Need-same-length invariant-loop decreases_loop
+same_length c = search rules
 
-returns : tie.Need-returns Inv-loop μ-loop
-returns c = fill-end _ _ _ (omega arith) (c .before .loop .inv .1)
+returns : tie.Need-returns invariant-loop decreases_loop
+returns c = fill_end _ _ _ (omega arith) c.before.loop.invariant.1
 
-pub add-outputs-spec : {M : Type 1} → statement M
-add-outputs-spec =
+pub add_outputs_spec : {M : Type 1} → statement M
+add_outputs_spec =
     tie.close
     (tie.spec
-    Inv-loop
-    μ-loop
-    loop-holds
-    add-line
-    shared-slice-read-line
-    add-line-2
-    shared-slice-read-line-2
-    add-line-3
-    slice-write-line
-    add-t
-    loop-less
-    loop-again
-    same-length
+    invariant-loop
+    decreases_loop
+    loop_holds
+    add_line
+    shared_slice_read_line
+    add_line_2
+    shared_slice_read_line_2
+    add_line_3
+    slice_write_line
+    add_t
+    loop_less
+    loop_again
+    same_length
     returns)

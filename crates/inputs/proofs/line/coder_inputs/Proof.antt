@@ -1,75 +1,74 @@
 -- `coder_inputs`: zeros before the frame's first bit, and the scrambled inputs behind them.
 use native.Mathlib.Omega.{arith}
-use denote.Ref.{now}
-use borrow.Author.Needs.{needs}
-use Rattle·chain.specs.DataBits.{payloadBit, coderInput}
-use Rattle·chain.proofs.Counts.{encoders-most}
-use Rattle·inputs·proofs.proofs.Mixing.{line-filled}
-use Rattle·inputs·proofs.proofs.line.coder_inputs.Statement.{statement}
-use Rattle·inputs·proofs.proofs.line.coder_inputs.Tie as tie
+use borrow.Author.Rules.{rules}
+use Rattle.chain.specs.DataBits.{payload_bit, coder_input}
+use Rattle.chain.proofs.Counts.{encoders_most}
+use Rattle.inputs.proofs.Mixing.{line_filled}
+use Rattle.inputs.proofs.line.coder_inputs.Statement.{statement}
+use Rattle.inputs.proofs.line.coder_inputs.Tie as tie
 
 -- the entry
 abbrev entry : tie.After-scrambled-inputs-arg → tie.Start
-entry c = c .before .before .before .before .before .before .before .before
+entry c = c.before.before.before.before.before.before.before.before
 
 returns : tie.Need-returns
 returns c =
-    let last = c .before .before in
-    let first = last .before .before .before .before in
-    let marks = first .before .before in
-    let start = marks .before .before .before in
-    let a = start .args in
-    line-filled (coderInput (payloadBit (now (a .payload))) (a .bytes) (a .encoders) (a .seed)) (a .encoders) (a .first) (a .count) _ _ _ _
-    (encoders-most (start .args .encoders) (start .pre .one-or-two)) (start .pre .some) (marks .below-mark .ensures) (first .clear .ensures) (last .scrambled-inputs .ensures)
+    let last = c.before.before in
+    let first = last.before.before.before.before in
+    let marks = first.before.before in
+    let start = marks.before.before.before in
+    let a = start.args in
+    line_filled (coder_input (payload_bit a.payload.now) a.bytes a.encoders a.seed) a.encoders a.first a.count _ _ _ _
+    (encoders_most start.args.encoders start.requires.one_or_two) start.requires.some marks.below-mark.ensures first.clear.ensures last.scrambled-inputs.ensures
 
-mul-below-mark : tie.Need-mul-below-mark
-mul-below-mark c = omega (arith, encoders-most (c .before .before .args .encoders) (c .before .before .pre .one-or-two))
+mul_below_mark : tie.Need-overflow-mul-below-mark
+mul_below_mark c = omega (arith, encoders_most c.before.before.args.encoders c.before.before.requires.one_or_two)
 
-below-mark-requires : tie.Need-below-mark-requires
-below-mark-requires c κs = search needs
+below_mark_requires : tie.Need-below-mark-requires
+below_mark_requires c κs = search rules
 
-add-start : tie.Need-add-start
-add-start c = search needs
+add_start : tie.Need-overflow-add-start
+add_start c = search rules
 
-mul-start : tie.Need-mul-start
-mul-start c = omega (arith, encoders-most (c .before .before .before .args .encoders) (c .before .before .before .pre .one-or-two))
+mul_start : tie.Need-overflow-mul-start
+mul_start c = omega (arith, encoders_most c.before.before.before.args.encoders c.before.before.before.requires.one_or_two)
 
-sub-start : tie.Need-sub-start
-sub-start c = omega (arith, encoders-most (c .before .before .before .args .encoders) (c .before .before .before .pre .one-or-two))
+sub_start : tie.Need-overflow-sub-start
+sub_start c = omega (arith, encoders_most c.before.before.before.args.encoders c.before.before.before.requires.one_or_two)
 
-clear-requires : tie.Need-clear-requires
-clear-requires c κs = search needs
+clear_requires : tie.Need-clear-requires
+clear_requires c κs = search rules
 
-sub-scrambled-inputs : tie.Need-sub-scrambled-inputs
-sub-scrambled-inputs c = search needs
+sub_scrambled_inputs : tie.Need-overflow-sub-scrambled-inputs
+sub_scrambled_inputs c = search rules
 
-scrambled-inputs-requires : tie.Need-scrambled-inputs-requires
-scrambled-inputs-requires c κs =
-    let two = encoders-most (entry c .args .encoders) (entry c .pre .one-or-two) in
+scrambled_inputs_requires : tie.Need-scrambled-inputs-requires
+scrambled_inputs_requires c κs =
+    let two = encoders_most (entry c).args.encoders (entry c).requires.one_or_two in
     record {
       room = omega arith;
       few = omega arith;
       whole = omega arith;
       short = omega arith;
-      at-most-two = omega arith;
+      at_most_two = omega arith;
       seeded = omega arith;
       near = omega arith;
     }
 
-same-length : tie.Need-same-length
-same-length c = search needs
+same_length : tie.Need-same-length
+same_length c = search rules
 
-pub coder-inputs-spec : {M : Type 1} → statement M
-coder-inputs-spec =
+pub coder_inputs_spec : {M : Type 1} → statement M
+coder_inputs_spec =
     tie.close
     (tie.spec
-    mul-below-mark
-    below-mark-requires
-    add-start
-    mul-start
-    sub-start
-    clear-requires
-    sub-scrambled-inputs
-    scrambled-inputs-requires
-    same-length
+    mul_below_mark
+    below_mark_requires
+    add_start
+    mul_start
+    sub_start
+    clear_requires
+    sub_scrambled_inputs
+    scrambled_inputs_requires
+    same_length
     returns)

@@ -1,119 +1,118 @@
 -- `scrambled_inputs`: data bits and outputs from one place on are mixed, with the tail where the frame has it.
 use native.Mathlib.Omega.{arith}
-use denote.Ref.{now}
-use borrow.Author.Needs.{needs}
-use Rattle·laws.proofs.Filling.{fill-at}
-use Rattle·chain.proofs.ScramblerLaws.{state-small, scrambler-bit}
-use Rattle·data_bits.proofs.Bytes.{data-asked}
-use Rattle·inputs·proofs.proofs.Mixing.{inputs-filled}
-use Rattle·inputs·proofs.proofs.line.scrambled_inputs.Statement.{statement}
-use Rattle·inputs·proofs.proofs.line.scrambled_inputs.Tie as tie
+use borrow.Author.Rules.{rules}
+use Rattle.laws.proofs.Filling.{fill_at}
+use Rattle.chain.proofs.ScramblerLaws.{state_small, scrambler_bit_lem}
+use Rattle.data_bits.proofs.Bytes.{data_asked}
+use Rattle.inputs.proofs.Mixing.{inputs_filled}
+use Rattle.inputs.proofs.line.scrambled_inputs.Statement.{statement}
+use Rattle.inputs.proofs.line.scrambled_inputs.Tie as tie
 
 -- the entry
 abbrev entry : tie.After-scrambler-outputs → tie.Start
-entry c = c .before .before .before .before .before .before .before .before
+entry c = c.before.before.before.before.before.before.before.before
 
 returns : tie.Need-returns
 returns c =
-    let last = c .before .before in
-    let marks = last .before .before .before .before in
-    let out = marks .before .before .before in
-    let a = entry out .args in
-    inputs-filled (now (a .payload)) _ _ _ _ _ _ (a .bytes) (a .encoders) (a .seed) (a .to) (a .start) (a .count) _ _ _
-    (out .before .before .before .before .data-bits .ensures) (out .before .jump .ensures) (out .scrambler-outputs .ensures)
-    (marks .before .below-mark .ensures) (marks .below-mark2 .ensures) (last .mix .ensures)
+    let last = c.before.before in
+    let marks = last.before.before.before.before in
+    let out = marks.before.before.before in
+    let a = (entry out).args in
+    inputs_filled a.payload.now _ _ _ _ _ _ a.bytes a.encoders a.seed a.to a.start a.count _ _ _
+    out.before.before.before.before.data_bits.ensures out.before.jump.ensures out.scrambler-outputs.ensures
+    marks.before.below-mark.ensures marks.below-mark2.ensures last.mix.ensures
 
-slice-aggregate-data-bits : tie.Need-slice-aggregate-data-bits
-slice-aggregate-data-bits c = search needs
+slice_aggregate_data_bits : tie.Need-slice-aggregate-data-bits
+slice_aggregate_data_bits c = search rules
 
-add-data-bits : tie.Need-add-data-bits
-add-data-bits c = search needs
+add_data_bits : tie.Need-overflow-add-data-bits
+add_data_bits c = search rules
 
-add-data-bits-2 : tie.Need-add-data-bits-2
-add-data-bits-2 c = search needs
+add_data_bits_2 : tie.Need-overflow-add-data-bits-2
+add_data_bits_2 c = search rules
 
-data-bits-requires : tie.Need-data-bits-requires
-data-bits-requires c κs = data-asked _ _ _ _ _ tt (omega arith) (omega arith) (omega arith) (omega arith) (omega arith)
+data_bits_requires : tie.Need-data-bits-requires
+data_bits_requires c κs = data_asked _ _ _ _ _ tt (omega arith) (omega arith) (omega arith) (omega arith) (omega arith)
 
-slice-aggregate-scrambler-outputs : tie.Need-slice-aggregate-scrambler-outputs
-slice-aggregate-scrambler-outputs c = search needs
+slice_aggregate_scrambler_outputs : tie.Need-slice-aggregate-scrambler-outputs
+slice_aggregate_scrambler_outputs c = search rules
 
-jump-requires : tie.Need-jump-requires
-jump-requires c κs = search needs
+jump_requires : tie.Need-jump-requires
+jump_requires c κs = search rules
 
-scrambler-outputs-requires : tie.Need-scrambler-outputs-requires
-scrambler-outputs-requires c κs =
-    (rw (c .jump .ensures) (state-small _ _ (c .before .before .before .before .before .before .before .pre .seeded)), omega arith)
+scrambler_outputs_requires : tie.Need-scrambler-outputs-requires
+scrambler_outputs_requires c κs =
+    (rw c.jump.ensures (state_small _ _ c.before.before.before.before.before.before.before.requires.seeded), omega arith)
 
-mul-below-mark : tie.Need-mul-below-mark
-mul-below-mark c = search needs
+mul_below_mark : tie.Need-overflow-mul-below-mark
+mul_below_mark c = search rules
 
-add-below-mark : tie.Need-add-below-mark
-add-below-mark c = search needs
+add_below_mark : tie.Need-overflow-add-below-mark
+add_below_mark c = search rules
 
-below-mark-requires : tie.Need-below-mark-requires
-below-mark-requires c κs = search needs
+below_mark_requires : tie.Need-below-mark-requires
+below_mark_requires c κs = search rules
 
-mul-below-mark-2 : tie.Need-mul-below-mark-2
-mul-below-mark-2 c = search needs
+mul_below_mark_2 : tie.Need-overflow-mul-below-mark-2
+mul_below_mark_2 c = search rules
 
-add-below-mark-2 : tie.Need-add-below-mark-2
-add-below-mark-2 c = search needs
+add_below_mark_2 : tie.Need-overflow-add-below-mark-2
+add_below_mark_2 c = search rules
 
-mul-below-mark-3 : tie.Need-mul-below-mark-3
-mul-below-mark-3 c = search needs
+mul_below_mark_3 : tie.Need-overflow-mul-below-mark-3
+mul_below_mark_3 c = search rules
 
-add-below-mark-3 : tie.Need-add-below-mark-3
-add-below-mark-3 c = search needs
+add_below_mark_3 : tie.Need-overflow-add-below-mark-3
+add_below_mark_3 c = search rules
 
-below-mark-requires-2 : tie.Need-below-mark-requires-2
-below-mark-requires-2 c κs = search needs
+below_mark_requires_2 : tie.Need-below-mark-requires-2
+below_mark_requires_2 c κs = search rules
 
-slice-aggregate-mix : tie.Need-slice-aggregate-mix
-slice-aggregate-mix c = search needs
+slice_aggregate_mix : tie.Need-slice-aggregate-mix
+slice_aggregate_mix c = search rules
 
-slice-aggregate-mix-2 : tie.Need-slice-aggregate-mix-2
-slice-aggregate-mix-2 c = search needs
+slice_aggregate_mix_2 : tie.Need-slice-aggregate-mix-2
+slice_aggregate_mix_2 c = search rules
 
-mix-requires : tie.Need-mix-requires
-mix-requires c κs =
-    let out = c .before .before .before .before .before .before in
+mix_requires : tie.Need-mix-requires
+mix_requires c κs =
+    let out = c.before.before.before.before.before.before in
     record {
       room = omega arith;
       few = omega arith;
       near = omega arith;
       skips = omega arith;
-      out-near = omega arith;
+      out_near = omega arith;
       ordered = omega arith;
       ends = omega arith;
-      raw-bits = out .before .before .before .before .data-bits .ensures .bits;
-      out-bits = λ j h. rw (fill-at _ _ (out .scrambler-outputs .ensures) j h) (scrambler-bit _ j);
+      raw_bits = out.before.before.before.before.data_bits.ensures.bits;
+      out_bits = λ j h. rw (fill_at _ _ out.scrambler-outputs.ensures j h) (scrambler_bit_lem _ j);
     }
 
-same-length : tie.Need-same-length
-same-length c = search needs
+same_length : tie.Need-same-length
+same_length c = search rules
 
-pub scrambled-inputs-spec : {M : Type 1} → statement M
-scrambled-inputs-spec =
+pub scrambled_inputs_spec : {M : Type 1} → statement M
+scrambled_inputs_spec =
     tie.close
     (tie.spec
-    slice-aggregate-data-bits
-    add-data-bits
-    add-data-bits-2
-    data-bits-requires
-    slice-aggregate-scrambler-outputs
-    jump-requires
-    scrambler-outputs-requires
-    mul-below-mark
-    add-below-mark
-    below-mark-requires
-    mul-below-mark-2
-    add-below-mark-2
-    mul-below-mark-3
-    add-below-mark-3
-    below-mark-requires-2
-    slice-aggregate-mix
-    slice-aggregate-mix-2
-    mix-requires
-    same-length
+    slice_aggregate_data_bits
+    add_data_bits
+    add_data_bits_2
+    data_bits_requires
+    slice_aggregate_scrambler_outputs
+    jump_requires
+    scrambler_outputs_requires
+    mul_below_mark
+    add_below_mark
+    below_mark_requires
+    mul_below_mark_2
+    add_below_mark_2
+    mul_below_mark_3
+    add_below_mark_3
+    below_mark_requires_2
+    slice_aggregate_mix
+    slice_aggregate_mix_2
+    mix_requires
+    same_length
     returns)

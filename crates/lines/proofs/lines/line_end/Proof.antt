@@ -1,63 +1,63 @@
 -- `lines::lines::line_end` meets its contract: what is left of the line ends where the whole of it does. Assumes nothing.
-use mathlib.Core.Path.{_≡_, sym, _∙_}
-use Prim.Native.Nat.{_+_, _-_, _≤_}
-use borrow.Author.Needs.{needs}
+use mathlib.Core.Path.{◌≡◌, sym, ◌∙◌}
+use Prim.Native.Nat.{◌+◌, ◌-◌, ◌≤◌}
+use borrow.Author.Rules.{rules}
 use borrow.Author.Tests.{not-true, not-false}
 use lib.ListN.{length, drop}
-use Rattle·laws.specs.Stretch.{stretch}
-use Rattle·laws.proofs.Stretches.{passed, stopped, ended}
-use Rattle·lines·specs.specs.Lines.{isInLine}
-use Rattle·lines·proofs.proofs.lines.line_end.Statement.{statement}
-use Rattle·lines·proofs.proofs.lines.line_end.Tie as tie
+use Rattle.laws.specs.Stretch.{stretch}
+use Rattle.laws.proofs.Stretches.{passed, stopped, ended}
+use Rattle.lines.specs.Lines.{is_in_line}
+use Rattle.lines.proofs.lines.line_end.Statement.{statement}
+use Rattle.lines.proofs.lines.line_end.Tie as tie
 
-abbrev Inv-loop : tie.InvT-loop
-Inv-loop input at i₀ i = (i ≤ length input) × (i + stretch isInLine (drop i input) ≡ at + stretch isInLine (drop at input))
+abbrev invariant-loop : tie.invariant-loop
+invariant-loop input at i₀ i = (i ≤ length input) × (i + stretch is_in_line (drop i input) ≡ at + stretch is_in_line (drop at input))
 
-abbrev μ-loop : tie.MeasureT-loop
-μ-loop input at i₀ i = length input - i
+abbrev decreases_loop : tie.decreases-loop
+decreases_loop input at i₀ i = length input - i
 
-loop-holds : tie.Need-loop-holds Inv-loop μ-loop
-loop-holds c = search needs
+loop_holds : tie.Need-loop-init invariant-loop decreases_loop
+loop_holds c = search rules
 
-shared-slice-read-is-in-line : tie.Need-shared-slice-read-is-in-line Inv-loop μ-loop
-shared-slice-read-is-in-line c = search needs
+shared_slice_read_is_in_line : tie.Need-shared-slice-read-is-in-line invariant-loop decreases_loop
+shared_slice_read_is_in_line c = search rules
 
-is-in-line-requires : tie.Need-is-in-line-requires Inv-loop μ-loop
-is-in-line-requires c κs = search needs
+is_in_line_requires : tie.Need-is-in-line-requires invariant-loop decreases_loop
+is_in_line_requires c κs = search rules
 
-returns : tie.Need-returns Inv-loop μ-loop
+returns : tie.Need-returns invariant-loop decreases_loop
 returns c = (
-  stopped isInLine _ (c .before .before .before .before .loop .i) (c .before .before .before .loop-test .taken) (sym (c .before .is-in-line .ensures) ∙ not-true _ (c .if1 .taken)) (c .before .before .before .before .loop .inv .1),
-  c .before .before .before .before .loop .inv .0,
+  stopped is_in_line _ c.before.before.before.before.loop.i c.before.before.before.loop-test.true (sym c.before.is-in-line.ensures ∙ not-true _ c.if1.true) c.before.before.before.before.loop.invariant.1,
+  c.before.before.before.before.loop.invariant.0,
 )
 
-add-i : tie.Need-add-i Inv-loop μ-loop
-add-i c = search needs
+add_i : tie.Need-overflow-add-i invariant-loop decreases_loop
+add_i c = search rules
 
-loop-less : tie.Need-loop-less Inv-loop μ-loop
-loop-less c = search needs
+loop_less : tie.Need-loop-smaller invariant-loop decreases_loop
+loop_less c = search rules
 
-loop-again : tie.Need-loop-again Inv-loop μ-loop
-loop-again c = (
-  search needs,
-  passed isInLine _ (c .before .before .before .before .loop .i) (c .before .before .before .loop-test .taken) (sym (c .before .is-in-line .ensures) ∙ not-false _ (c .if1 .left)) (c .before .before .before .before .loop .inv .1),
+loop_again : tie.Need-loop-preserved invariant-loop decreases_loop
+loop_again c = (
+  search rules,
+  passed is_in_line _ c.before.before.before.before.loop.i c.before.before.before.loop-test.true (sym c.before.is-in-line.ensures ∙ not-false _ c.if1.false) c.before.before.before.before.loop.invariant.1,
 )
 
-returns-2 : tie.Need-returns-2 Inv-loop μ-loop
-returns-2 c =
-    (ended isInLine _ (c .before .loop .i) (c .loop-test .left) (c .before .loop .inv .1), c .before .loop .inv .0)
+returns_2 : tie.Need-returns-2 invariant-loop decreases_loop
+returns_2 c =
+    (ended is_in_line _ c.before.loop.i c.loop-test.false c.before.loop.invariant.1, c.before.loop.invariant.0)
 
-pub line-end-spec : {M : Type 1} → statement M
-line-end-spec =
+pub line_end_spec : {M : Type 1} → statement M
+line_end_spec =
     tie.close
     (tie.spec
-    Inv-loop
-    μ-loop
-    loop-holds
-    shared-slice-read-is-in-line
-    is-in-line-requires
+    invariant-loop
+    decreases_loop
+    loop_holds
+    shared_slice_read_is_in_line
+    is_in_line_requires
     returns
-    add-i
-    loop-less
-    loop-again
-    returns-2)
+    add_i
+    loop_less
+    loop_again
+    returns_2)

@@ -1,10 +1,10 @@
 -- `too_long` is the definition's test.
 use mathlib.Core.Path.{refl}
-use Rattle·lines·proofs.proofs.lines.too_long.Statement.{statement}
-use Rattle·lines·proofs.proofs.lines.too_long.Tie as tie
+use Rattle.lines.proofs.lines.too_long.Statement.{statement}
+use Rattle.lines.proofs.lines.too_long.Tie as tie
 
 returns : tie.Need-returns
 returns c = refl
 
-pub too-long-spec : {M : Type 1} → statement M
-too-long-spec = tie.close (tie.spec returns)
+pub too_long_spec : {M : Type 1} → statement M
+too_long_spec = tie.close (tie.spec returns)

@@ -1,37 +1,37 @@
 -- `listing::rows::refused_row` meets its contract: the parts in their order. Assumes nothing.
 use native.Mathlib.Omega.{arith}
-use Rattle·settings.proofs.SettingsLaws.{number-range}
-use Rattle·listing·proofs.proofs.RowLaws.{size, refused-pushed}
-use borrow.Author.Needs.{needs}
-use Rattle·listing·proofs.proofs.rows.refused_row.Statement.{statement}
-use Rattle·listing·proofs.proofs.rows.refused_row.Tie as tie
+use Rattle.settings.proofs.SettingsLaws.{number_range}
+use Rattle.listing.proofs.RowLaws.{size, refused_pushed}
+use borrow.Author.Rules.{rules}
+use Rattle.listing.proofs.rows.refused_row.Statement.{statement}
+use Rattle.listing.proofs.rows.refused_row.Tie as tie
 
-slice-aggregate-push-text : tie.Need-slice-aggregate-push-text
-slice-aggregate-push-text c = search needs
+slice_aggregate_push_text : tie.Need-slice-aggregate-push-text
+slice_aggregate_push_text c = search rules
 
-push-text-requires : tie.Need-push-text-requires
-push-text-requires c κs = search needs
+push_text_requires : tie.Need-push-text-requires
+push_text_requires c κs = search rules
 
-number-requires : tie.Need-number-requires
-number-requires c κs = search needs
+number_requires : tie.Need-number-requires
+number_requires c κs = search rules
 
-push-decimal-requires : tie.Need-push-decimal-requires
-push-decimal-requires c κs = omega (arith, size (c .before .push-text .ensures), number-range (c .before .before .before .args .r) .1)
+push_decimal_requires : tie.Need-push-decimal-requires
+push_decimal_requires c κs = omega (arith, size c.before.push-text.ensures, (number_range c.before.before.before.args.r).1)
 
-push-requires : tie.Need-push-requires
-push-requires c κs = omega (arith, size (c .before .before .push-text .ensures))
+push_requires : tie.Need-push-requires
+push_requires c κs = omega (arith, size c.before.before.push-text.ensures)
 
 returns : tie.Need-returns
 returns c =
-    refused-pushed (c .before .before .before .before .before .args .inputs) _ _ _ _ (c .before .before .before .before .before .args .r) (c .before .before .before .push-text .ensures) (c .before .before .number .ensures) (c .before .push-decimal .ensures .0) (c .push .ensures)
+    refused_pushed c.before.before.before.before.before.args.inputs _ _ _ _ c.before.before.before.before.before.args.r c.before.before.before.push-text.ensures c.before.before.number.ensures c.before.push-decimal.ensures.0 c.push.ensures
 
-pub refused-row-spec : {M : Type 1} → statement M
-refused-row-spec =
+pub refused_row_spec : {M : Type 1} → statement M
+refused_row_spec =
     tie.close
     (tie.spec
-    slice-aggregate-push-text
-    push-text-requires
-    number-requires
-    push-decimal-requires
-    push-requires
+    slice_aggregate_push_text
+    push_text_requires
+    number_requires
+    push_decimal_requires
+    push_requires
     returns)

@@ -1,40 +1,40 @@
 -- `listing::rows::row` meets its contract: the row by the parse. Assumes nothing.
-use Rattle·listing·proofs.proofs.RowLaws.{row-numbers, row-malformed, small-numbers}
-use borrow.Author.Needs.{needs}
-use Rattle·listing·proofs.proofs.rows.row.Statement.{statement}
-use Rattle·listing·proofs.proofs.rows.row.Tie as tie
+use Rattle.listing.proofs.RowLaws.{row_numbers, row_malformed, small_numbers}
+use borrow.Author.Rules.{rules}
+use Rattle.listing.proofs.rows.row.Statement.{statement}
+use Rattle.listing.proofs.rows.row.Tie as tie
 
-parse-requires : tie.Need-parse-requires
-parse-requires c κs = search needs
+parse_requires : tie.Need-parse-requires
+parse_requires c κs = search rules
 
-enum-known-parsed : tie.Need-enum-known-parsed
-enum-known-parsed c = search needs
+enum_known_parsed : tie.Need-enum-known-parsed
+enum_known_parsed c = search rules
 
-enum-told : tie.Need-enum-told
-enum-told c = search needs
+enum_told : tie.Need-enum-told
+enum_told c = search rules
 
-malformed-row-requires : tie.Need-malformed-row-requires
-malformed-row-requires c κs = search needs
+malformed_row_requires : tie.Need-malformed-row-requires
+malformed_row_requires c κs = search rules
 
 returns : tie.Need-returns
 returns c =
-    row-malformed (c .before .before .before .before .before .args .line .now) _ _ (c .before .before .before .parse .ensures .0) (c .before .enum-told .given .1) (c .malformed-row .ensures)
+    row_malformed c.before.before.before.before.before.args.line.now _ _ c.before.before.before.parse.ensures.0 c.before.enum_told.given.1 c.malformed-row.ensures
 
-answered-row-requires : tie.Need-answered-row-requires
-answered-row-requires c κs = small-numbers _ _ _ _ (c .before .before .before .parse .ensures .1) (c .before .parsed .given .1)
+answered_row_requires : tie.Need-answered-row-requires
+answered_row_requires c κs = small_numbers _ _ _ _ c.before.before.before.parse.ensures.1 c.before.parsed.given.1
 
-returns-2 : tie.Need-returns-2
-returns-2 c =
-    row-numbers (c .before .before .before .before .before .before .args .line .now) _ _ (c .before .before .before .before .parse .ensures .0) _ _ _ (c .before .before .parsed .given .1) (c .answered-row .ensures)
+returns_2 : tie.Need-returns-2
+returns_2 c =
+    row_numbers c.before.before.before.before.before.before.args.line.now _ _ c.before.before.before.before.parse.ensures.0 _ _ _ c.before.before.parsed.given.1 c.answered-row.ensures
 
-pub row-spec : {M : Type 1} → statement M
-row-spec =
+pub row_spec : {M : Type 1} → statement M
+row_spec =
     tie.close
     (tie.spec
-    parse-requires
-    enum-known-parsed
-    enum-told
-    malformed-row-requires
+    parse_requires
+    enum_known_parsed
+    enum_told
+    malformed_row_requires
     returns
-    answered-row-requires
-    returns-2)
+    answered_row_requires
+    returns_2)

@@ -3,40 +3,39 @@ use mathlib.Core.Path.{refl}
 use native.Mathlib.Omega.{arith}
 use lib.ListN.{length-set}
 use lib.Ieee.{nan}
-use denote.Ref.{now}
-use Rattle·laws.proofs.Filling.{fill-none, fill-more}
-use Rattle·mapper·specs.specs.Mapped.{axisOf}
-use borrow.Author.Needs.{needs}
-use Rattle·mapper·proofs.proofs.point.put_point.Statement.{statement}
-use Rattle·mapper·proofs.proofs.point.put_point.Tie as tie
+use Rattle.laws.proofs.Filling.{fill_none, fill_more}
+use Rattle.mapper.specs.Mapped.{axis_of}
+use borrow.Author.Rules.{rules}
+use Rattle.mapper.proofs.point.put_point.Statement.{statement}
+use Rattle.mapper.proofs.point.put_point.Tie as tie
 
 returns : tie.Need-returns
 returns c =
-    let at = c .args .at in
-    let f = axisOf (c .args .p) in
-    let d = now (c .args .out) in
-    fill-more nan at f 1 d _ _ _ refl (omega (arith, c .pre)) refl
-    (fill-more nan at f 0 d d _ _ (omega arith) (omega (arith, c .pre)) refl (fill-none nan at f d))
+    let at = c.args.at in
+    let f = axis_of c.args.p in
+    let d = c.args.out.now in
+    fill_more nan at f 1 d _ _ _ refl (omega (arith, c.requires)) refl
+    (fill_more nan at f 0 d d _ _ (omega arith) (omega (arith, c.requires)) refl (fill_none nan at f d))
 
-mul-out : tie.Need-mul-out
-mul-out c = search needs
+mul_out : tie.Need-overflow-mul-out
+mul_out c = search rules
 
-slice-write-out : tie.Need-slice-write-out
-slice-write-out c = search needs
+slice_write_out : tie.Need-slice-write-out
+slice_write_out c = search rules
 
-add-out : tie.Need-add-out
-add-out c = search needs
+add_out : tie.Need-overflow-add-out
+add_out c = search rules
 
-mul-out-2 : tie.Need-mul-out-2
-mul-out-2 c = search needs
+mul_out_2 : tie.Need-overflow-mul-out-2
+mul_out_2 c = search rules
 
-slice-write-out-2 : tie.Need-slice-write-out-2
-slice-write-out-2 c = simp length-set (omega (arith, c .pre))
+slice_write_out_2 : tie.Need-slice-write-out-2
+slice_write_out_2 c = simp length-set (omega (arith, c.requires))
 
-same-length : tie.Need-same-length
-same-length c = search needs
+same_length : tie.Need-same-length
+same_length c = search rules
 
-pub put-point-spec : {M : Type 1} → statement M
-put-point-spec =
+pub put_point_spec : {M : Type 1} → statement M
+put_point_spec =
     tie.close
-    (tie.spec mul-out slice-write-out add-out mul-out-2 slice-write-out-2 same-length returns)
+    (tie.spec mul_out slice_write_out add_out mul_out_2 slice_write_out_2 same_length returns)

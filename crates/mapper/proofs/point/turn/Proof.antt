@@ -1,15 +1,15 @@
 -- `turn` negates the second level and puts it first.
 use mathlib.Core.Path.{ap}
 use lib.Ieee.{Float}
-use borrow.Author.Needs.{needs}
-use Rattle·mapper·proofs.proofs.point.turn.Statement.{statement}
-use Rattle·mapper·proofs.proofs.point.turn.Tie as tie
+use borrow.Author.Rules.{rules}
+use Rattle.mapper.proofs.point.turn.Statement.{statement}
+use Rattle.mapper.proofs.point.turn.Tie as tie
 
-negated-requires : tie.Need-negated-requires
-negated-requires c κs = search needs
+negated_requires : tie.Need-negated-requires
+negated_requires c κs = search rules
 
 returns : tie.Need-returns
-returns c = ap (λ (x : Float). record { first = x; second = c .before .args .p .first }) (c .negated .ensures)
+returns c = ap (λ (x : Float). record { first = x; second = c.before.args.p.first }) c.negated.ensures
 
-pub turn-spec : {M : Type 1} → statement M
-turn-spec = tie.close (tie.spec negated-requires returns)
+pub turn_spec : {M : Type 1} → statement M
+turn_spec = tie.close (tie.spec negated_requires returns)

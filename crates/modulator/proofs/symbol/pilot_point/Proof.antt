@@ -1,20 +1,20 @@
 -- `pilot_point` goes by the turn.
-use lib.Ieee.{ofBits, ofInt}
-use borrow.Author.Needs.{needs}
-use Rattle·modulator·proofs.proofs.RunningLaws.{pilot-turned, pilot-plain}
-use Rattle·modulator·proofs.proofs.symbol.pilot_point.Statement.{statement}
-use Rattle·modulator·proofs.proofs.symbol.pilot_point.Tie as tie
+use lib.Ieee.{of_bits, of_int}
+use borrow.Author.Rules.{rules}
+use Rattle.modulator.proofs.RunningLaws.{pilot_turned, pilot_plain}
+use Rattle.modulator.proofs.symbol.pilot_point.Statement.{statement}
+use Rattle.modulator.proofs.symbol.pilot_point.Tie as tie
 
 returns : tie.Need-returns
-unfolding ofBits ofInt
-returns c = pilot-turned (c .before .before .args .sign) (c .before .before .args .turned) _ (c .before .if1 .taken) (c .turn .ensures)
+unfolding of_bits of_int
+returns c = pilot_turned c.before.before.args.sign c.before.before.args.turned _ c.before.if1.true c.turn.ensures
 
-returns-2 : tie.Need-returns-2
-unfolding ofBits ofInt
-returns-2 c = pilot-plain (c .before .args .sign) (c .before .args .turned) (c .if1 .left)
+returns_2 : tie.Need-returns-2
+unfolding of_bits of_int
+returns_2 c = pilot_plain c.before.args.sign c.before.args.turned c.if1.false
 
-turn-requires : tie.Need-turn-requires
-turn-requires c κs = search needs
+turn_requires : tie.Need-turn-requires
+turn_requires c κs = search rules
 
-pub pilot-point-spec : {M : Type 1} → statement M
-pilot-point-spec = tie.close (tie.spec turn-requires returns returns-2)
+pub pilot_point_spec : {M : Type 1} → statement M
+pilot_point_spec = tie.close (tie.spec turn_requires returns returns_2)

@@ -1,81 +1,80 @@
 -- `run_points` puts one carrier's point a turn.
-use Prim.Native.Nat.{_-_, _*_, _≤_}
+use Prim.Native.Nat.{◌-◌, ◌*◌, ◌≤◌}
 use native.Mathlib.Omega.{arith}
 use lib.Ieee.{nan}
-use denote.Ref.{now}
-use borrow.Author.Needs.{needs}
-use Rattle·laws.specs.Filled.{Filled}
-use Rattle·laws.proofs.Filling.{fill-none, fill-end}
-use Rattle·mapper.specs.Levels.{whole}
-use Rattle·modulator·specs.specs.Asked.{runLevel}
-use Rattle·modulator·proofs.proofs.RunningLaws.{run-asked, run-more}
-use Rattle·modulator·proofs.proofs.symbol.run_points.Statement.{statement}
-use Rattle·modulator·proofs.proofs.symbol.run_points.Tie as tie
+use borrow.Author.Rules.{rules}
+use Rattle.laws.specs.Filled.{Filled}
+use Rattle.laws.proofs.Filling.{fill_none, fill_end}
+use Rattle.mapper.specs.Levels.{whole}
+use Rattle.modulator.specs.Asked.{run_level}
+use Rattle.modulator.proofs.RunningLaws.{run_asked, run_more}
+use Rattle.modulator.proofs.symbol.run_points.Statement.{statement}
+use Rattle.modulator.proofs.symbol.run_points.Tie as tie
 
-abbrev Inv-loop : tie.InvT-loop
-Inv-loop out₀ halves table bits from to carrier count turned k₀ out k =
-    (k ≤ count) × Filled nan to (λ g. whole (runLevel halves bits from carrier turned g)) (2 * k) out₀ out
+abbrev invariant-loop : tie.invariant-loop
+invariant-loop out₀ halves table bits from to carrier count turned k₀ out k =
+    (k ≤ count) × Filled nan to (λ g. whole (run_level halves bits from carrier turned g)) (2 * k) out₀ out
 
-abbrev μ-loop : tie.MeasureT-loop
-μ-loop out₀ halves table bits from to carrier count turned k₀ out k = count - k
+abbrev decreases_loop : tie.decreases-loop
+decreases_loop out₀ halves table bits from to carrier count turned k₀ out k = count - k
 
-loop-again : tie.Need-loop-again Inv-loop μ-loop
-loop-again c =
-    let k = c .before .before in
-    let l = k .before .before .before .before in
-    let a = l .before .before .before .before in
-    let z = a .args in (
+loop_again : tie.Need-loop-preserved invariant-loop decreases_loop
+loop_again c =
+    let k = c.before.before in
+    let l = k.before.before.before.before in
+    let a = l.before.before.before.before in
+    let z = a.args in (
       omega arith,
-      run-more (now (z .halves)) (z .bits) (z .from) (z .to) (z .carrier) (l .loop .k) (z .turned) (k .before .sent-point .result) _ _ _
-          (k .before .sent-point .ensures) (l .loop .inv .1) (k .put-point .ensures),
+      run_more z.halves.now z.bits z.from z.to z.carrier l.loop.k z.turned k.before.sent-point.result _ _ _
+          k.before.sent-point.ensures l.loop.invariant.1 k.put-point.ensures,
     )
 
-returns : tie.Need-returns Inv-loop μ-loop
-returns c = fill-end _ _ _ (omega arith) (c .before .loop .inv .1)
+returns : tie.Need-returns invariant-loop decreases_loop
+returns c = fill_end _ _ _ (omega arith) c.before.loop.invariant.1
 
-sent-point-requires : tie.Need-sent-point-requires Inv-loop μ-loop
-sent-point-requires c κs = run-asked (c .before .before .before .before .before .before .pre) (c .before .before .loop .k) (omega arith)
+sent_point_requires : tie.Need-sent-point-requires invariant-loop decreases_loop
+sent_point_requires c κs = run_asked c.before.before.before.before.before.before.requires c.before.before.loop.k (omega arith)
 
-put-point-requires : tie.Need-put-point-requires Inv-loop μ-loop
-put-point-requires c κs =
-    let l = c .before .before .before in
-    omega (arith, l .loop .inv .1 .same, l .before .before .before .before .pre .room)
+put_point_requires : tie.Need-put-point-requires invariant-loop decreases_loop
+put_point_requires c κs =
+    let l = c.before.before.before in
+    omega (arith, l.loop.invariant.1.same, l.before.before.before.before.requires.room)
 
-loop-holds : tie.Need-loop-holds Inv-loop μ-loop
-loop-holds c = (search needs, fill-none _ _ _ _)
+loop_holds : tie.Need-loop-init invariant-loop decreases_loop
+loop_holds c = (search rules, fill_none _ _ _ _)
 
-mul-put-point : tie.Need-mul-put-point Inv-loop μ-loop
-mul-put-point c = search needs
+mul_put_point : tie.Need-overflow-mul-put-point invariant-loop decreases_loop
+mul_put_point c = search rules
 
-add-put-point : tie.Need-add-put-point Inv-loop μ-loop
-add-put-point c = search needs
+add_put_point : tie.Need-overflow-add-put-point invariant-loop decreases_loop
+add_put_point c = search rules
 
-add-sent-point : tie.Need-add-sent-point Inv-loop μ-loop
-add-sent-point c = search needs
+add_sent_point : tie.Need-overflow-add-sent-point invariant-loop decreases_loop
+add_sent_point c = search rules
 
-add-k : tie.Need-add-k Inv-loop μ-loop
-add-k c = search needs
+add_k : tie.Need-overflow-add-k invariant-loop decreases_loop
+add_k c = search rules
 
-loop-less : tie.Need-loop-less Inv-loop μ-loop
-loop-less c = search needs
+loop_less : tie.Need-loop-smaller invariant-loop decreases_loop
+loop_less c = search rules
 
-same-length : tie.Need-same-length Inv-loop μ-loop
-same-length c = c .before .loop .inv .1 .same
+same_length : tie.Need-same-length invariant-loop decreases_loop
+same_length c = c.before.loop.invariant.1.same
 
-pub run-points-spec : {M : Type 1} → statement M
-run-points-spec =
+pub run_points_spec : {M : Type 1} → statement M
+run_points_spec =
     tie.close
     (tie.spec
-    Inv-loop
-    μ-loop
-    loop-holds
-    mul-put-point
-    add-put-point
-    add-sent-point
-    sent-point-requires
-    put-point-requires
-    add-k
-    loop-less
-    loop-again
-    same-length
+    invariant-loop
+    decreases_loop
+    loop_holds
+    mul_put_point
+    add_put_point
+    add_sent_point
+    sent_point_requires
+    put_point_requires
+    add_k
+    loop_less
+    loop_again
+    same_length
     returns)

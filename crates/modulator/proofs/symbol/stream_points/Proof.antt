@@ -1,86 +1,85 @@
 -- `stream_points` writes the stream run by run.
-use mathlib.Core.Path.{_≡_, _∙_, refl}
-use Prim.Native.Nat.{_-_, _≤_}
+use mathlib.Core.Path.{◌≡◌, ◌∙◌, refl}
+use Prim.Native.Nat.{◌-◌, ◌≤◌}
 use native.Mathlib.Omega.{arith}
 use lib.ListN.{length}
-use denote.Ref.{now}
-use borrow.Author.Needs.{needs}
-use Rattle·modulator·proofs.proofs.RunningLaws.{PartFilled, part-none, part-more, part-end}
-use Rattle·modulator·proofs.proofs.symbol.stream_points.Statement.{statement}
-use Rattle·modulator·proofs.proofs.symbol.stream_points.Tie as tie
+use borrow.Author.Rules.{rules}
+use Rattle.modulator.proofs.RunningLaws.{PartFilled, part_none, part_more, part_end}
+use Rattle.modulator.proofs.symbol.stream_points.Statement.{statement}
+use Rattle.modulator.proofs.symbol.stream_points.Tie as tie
 
-abbrev Inv-loop : tie.InvT-loop
-Inv-loop out₀ halves table plan polarity n i base from runs r₀ out r =
+abbrev invariant-loop : tie.invariant-loop
+invariant-loop out₀ halves table plan polarity n i base from runs r₀ out r =
     (r ≤ runs) × (length out ≡ length out₀) × PartFilled plan halves polarity n i base from r out₀ out
 
-abbrev μ-loop : tie.MeasureT-loop
-μ-loop out₀ halves table plan polarity n i base from runs r₀ out r = runs - r
+abbrev decreases_loop : tie.decreases-loop
+decreases_loop out₀ halves table plan polarity n i base from runs r₀ out r = runs - r
 
-loop-again : tie.Need-loop-again Inv-loop μ-loop
-loop-again c =
-    let done = c .before .before in
-    let l = done .before .before .before in
-    let runs = l .before in
-    let a = runs .before .before .before .before in
-    let z = a .args in (
+loop_again : tie.Need-loop-preserved invariant-loop decreases_loop
+loop_again c =
+    let done = c.before.before in
+    let l = done.before.before.before in
+    let runs = l.before in
+    let a = runs.before.before.before.before in
+    let z = a.args in (
       omega arith,
-      done .segment-points .kept .0 ∙ l .loop .inv .1,
-      part-more (z .plan) (a .pre .0 .fits) (now (z .halves)) (z .polarity) (z .n) (z .i) (z .base) (z .from) (l .loop .r) _ _ _
-          (omega arith) (l .loop .inv .2) (done .segment-points .ensures),
+      done.segment-points.auto.0 ∙ l.loop.invariant.1,
+      part_more z.plan a.requires.0.fits z.halves.now z.polarity z.n z.i z.base z.from l.loop.r _ _ _
+          (omega arith) l.loop.invariant.2 done.segment-points.ensures,
     )
 
-returns : tie.Need-returns Inv-loop μ-loop
+returns : tie.Need-returns invariant-loop decreases_loop
 returns c =
-    let l = c .before in
-    let a = l .before .before .before .before .before in
-    let z = a .args in
-    part-end (z .plan) (a .pre .0 .fits) (now (z .halves)) (z .polarity) (z .n) (z .i) (z .base) (z .from) (l .loop .r) _ _
-    (omega arith) (l .loop .inv .2)
+    let l = c.before in
+    let a = l.before.before.before.before.before in
+    let z = a.args in
+    part_end z.plan a.requires.0.fits z.halves.now z.polarity z.n z.i z.base z.from l.loop.r _ _
+    (omega arith) l.loop.invariant.2
 
-segment-points-requires : tie.Need-segment-points-requires Inv-loop μ-loop
-segment-points-requires c κs =
-    let l = c .before .before in
-    let q = l .before .before .before .before .before .pre in (
+segment_points_requires : tie.Need-segment-points-requires invariant-loop decreases_loop
+segment_points_requires c κs =
+    let l = c.before.before in
+    let q = l.before.before.before.before.before.requires in (
       record {
-        fits = q .0 .fits;
-        tabled = q .0 .tabled;
-        stands = q .0 .stands;
-        stream = q .0 .stream;
-        near = q .0 .near;
-        room = omega (arith, q .0 .room, l .loop .inv .1);
+        fits = q.0.fits;
+        tabled = q.0.tabled;
+        stands = q.0.stands;
+        stream = q.0.stream;
+        near = q.0.near;
+        room = omega (arith, q.0.room, l.loop.invariant.1);
       },
-      (q .1, omega arith),
+      (q.1, omega arith),
     )
 
-runs-of-requires : tie.Need-runs-of-requires Inv-loop μ-loop
-runs-of-requires c κs = search needs
+runs_of_requires : tie.Need-runs-of-requires invariant-loop decreases_loop
+runs_of_requires c κs = search rules
 
-loop-holds : tie.Need-loop-holds Inv-loop μ-loop
-loop-holds c =
-    let a = c .before .before .before .before in
-    let z = a .args in
-    (omega arith, refl, part-none (z .plan) (a .pre .0 .fits) (now (z .halves)) (z .polarity) (z .n) (z .i) (z .base) (z .from) (now (z .out)))
+loop_holds : tie.Need-loop-init invariant-loop decreases_loop
+loop_holds c =
+    let a = c.before.before.before.before in
+    let z = a.args in
+    (omega arith, refl, part_none z.plan a.requires.0.fits z.halves.now z.polarity z.n z.i z.base z.from z.out.now)
 
-add-r : tie.Need-add-r Inv-loop μ-loop
-add-r c = search needs
+add_r : tie.Need-overflow-add-r invariant-loop decreases_loop
+add_r c = search rules
 
-loop-less : tie.Need-loop-less Inv-loop μ-loop
-loop-less c = search needs
+loop_less : tie.Need-loop-smaller invariant-loop decreases_loop
+loop_less c = search rules
 
-same-length : tie.Need-same-length Inv-loop μ-loop
-same-length c = c .before .loop .inv .1
+same_length : tie.Need-same-length invariant-loop decreases_loop
+same_length c = c.before.loop.invariant.1
 
-pub stream-points-spec : {M : Type 1} → statement M
-stream-points-spec =
+pub stream_points_spec : {M : Type 1} → statement M
+stream_points_spec =
     tie.close
     (tie.spec
-    Inv-loop
-    μ-loop
-    runs-of-requires
-    loop-holds
-    segment-points-requires
-    add-r
-    loop-less
-    loop-again
-    same-length
+    invariant-loop
+    decreases_loop
+    runs_of_requires
+    loop_holds
+    segment_points_requires
+    add_r
+    loop_less
+    loop_again
+    same_length
     returns)

@@ -1,69 +1,69 @@
--- `parsing::numbers::value_in` meets its contract: what is left to read gives the number, and what is read has room to grow. Assumes nothing.
-use mathlib.Core.Path.{_≡_}
-use Prim.Native.Nat.{_+_, _-_, _*_, _≤_}
+-- `parsing::numbers::value_in_lem` meets its contract: what is left to read gives the number, and what is read has room to grow. Assumes nothing.
+use mathlib.Core.Path.{◌≡◌}
+use Prim.Native.Nat.{◌+◌, ◌-◌, ◌*◌, ◌≤◌}
 use native.Mathlib.Omega.{arith}
-use borrow.Author.Needs.{needs}
+use borrow.Author.Rules.{rules}
 use lib.ListN.{take, drop}
-use Rattle·parsing·specs.specs.Parsing.{decimalFrom}
-use Rattle·parsing·proofs.proofs.Values.{tens, tens-none, tens-most, value-next, value-ends, value-room}
-use Rattle·parsing·proofs.proofs.numbers.value_in.Statement.{statement}
-use Rattle·parsing·proofs.proofs.numbers.value_in.Tie as tie
+use Rattle.parsing.specs.Parsing.{decimal_from}
+use Rattle.parsing.proofs.Values.{tens, tens_none, tens_most, value_next, value_ends, value_room}
+use Rattle.parsing.proofs.numbers.value_in.Statement.{statement}
+use Rattle.parsing.proofs.numbers.value_in.Tie as tie
 
-abbrev Inv-loop : tie.InvT-loop
-Inv-loop line from to value₀ i₀ value i = (from ≤ i) × (i ≤ to) × (value + 23 ≤ 23 * tens (i - from)) × (decimalFrom value (take (to - i) (drop i line)) ≡ decimalFrom 0 (take (to - from) (drop from line)))
+abbrev invariant-loop : tie.invariant-loop
+invariant-loop line from to value₀ i₀ value i = (from ≤ i) × (i ≤ to) × (value + 23 ≤ 23 * tens (i - from)) × (decimal_from value (take (to - i) (drop i line)) ≡ decimal_from 0 (take (to - from) (drop from line)))
 
-abbrev μ-loop : tie.MeasureT-loop
-μ-loop line from to value₀ i₀ value i = to - i
+abbrev decreases_loop : tie.decreases-loop
+decreases_loop line from to value₀ i₀ value i = to - i
 
-loop-holds : tie.Need-loop-holds Inv-loop μ-loop
-loop-holds c =
-    let e : c .before .args .from - c .before .args .from ≡ 0 = omega arith in
-    (search needs, search needs, rw (e, tens-none) (omega arith), search needs)
+loop_holds : tie.Need-loop-init invariant-loop decreases_loop
+loop_holds c =
+    let e : c.before.args.from - c.before.args.from ≡ 0 = omega arith in
+    (search rules, search rules, rw (e, tens_none) (omega arith), search rules)
 
-mul-value : tie.Need-mul-value Inv-loop μ-loop
-mul-value c = omega (arith, tens-most (c .before .loop .i - c .before .before .before .args .from) (omega arith))
+mul_value : tie.Need-overflow-mul-value invariant-loop decreases_loop
+mul_value c = omega (arith, tens_most (c.before.loop.i - c.before.before.before.args.from) (omega arith))
 
-shared-slice-read-digit-value : tie.Need-shared-slice-read-digit-value Inv-loop μ-loop
-shared-slice-read-digit-value c = search needs
+shared_slice_read_digit_value : tie.Need-shared-slice-read-digit-value invariant-loop decreases_loop
+shared_slice_read_digit_value c = search rules
 
-digit-value-requires : tie.Need-digit-value-requires Inv-loop μ-loop
-digit-value-requires c κs = search needs
+digit_value_requires : tie.Need-digit-value-requires invariant-loop decreases_loop
+digit_value_requires c κs = search rules
 
-add-value : tie.Need-add-value Inv-loop μ-loop
-add-value c = omega (arith, tens-most (c .before .before .before .loop .i - c .before .before .before .before .before .args .from) (omega arith))
+add_value : tie.Need-overflow-add-value invariant-loop decreases_loop
+add_value c = omega (arith, tens_most (c.before.before.before.loop.i - c.before.before.before.before.before.args.from) (omega arith))
 
-add-i : tie.Need-add-i Inv-loop μ-loop
-add-i c = search needs
+add_i : tie.Need-overflow-add-i invariant-loop decreases_loop
+add_i c = search rules
 
-loop-less : tie.Need-loop-less Inv-loop μ-loop
-loop-less c = search needs
+loop_less : tie.Need-loop-smaller invariant-loop decreases_loop
+loop_less c = search rules
 
-loop-again : tie.Need-loop-again Inv-loop μ-loop
-loop-again c =
-    let i = c .before .before .before .loop .i in
-    let from = c .before .before .before .before .before .args .from in
+loop_again : tie.Need-loop-preserved invariant-loop decreases_loop
+loop_again c =
+    let i = c.before.before.before.loop.i in
+    let from = c.before.before.before.before.before.args.from in
     let e : i + 1 - from ≡ i - from + 1 = omega arith in (
-      search needs,
-      search needs,
-      rw e (value-room (i - from) (c .before .before .before .loop .value) (c .digit-value .result) (c .before .before .before .loop .inv .2) (c .digit-value .ensures .1)),
-      rw (c .digit-value .ensures .0) (value-next _ _ i (c .before .before .before .loop .value) (c .before .before .loop-test .taken) (c .before .before .before .before .before .pre .1 .1) (c .before .before .before .loop .inv .3)),
+      search rules,
+      search rules,
+      rw e (value_room (i - from) c.before.before.before.loop.value c.digit_value.result c.before.before.before.loop.invariant.2 c.digit_value.ensures.1),
+      rw c.digit_value.ensures.0 (value_next _ _ i c.before.before.before.loop.value c.before.before.loop-test.true c.before.before.before.before.before.requires.1.1 c.before.before.before.loop.invariant.3),
     )
 
-returns : tie.Need-returns Inv-loop μ-loop
-returns c = value-ends _ _ (c .before .loop .i) (c .before .loop .value) (c .loop-test .left) (c .before .loop .inv .3)
+returns : tie.Need-returns invariant-loop decreases_loop
+returns c = value_ends _ _ c.before.loop.i c.before.loop.value c.loop-test.false c.before.loop.invariant.3
 
-pub value-in-spec : {M : Type 1} → statement M
-value-in-spec =
+pub value_in_spec : {M : Type 1} → statement M
+value_in_spec =
     tie.close
     (tie.spec
-    Inv-loop
-    μ-loop
-    loop-holds
-    mul-value
-    shared-slice-read-digit-value
-    digit-value-requires
-    add-value
-    add-i
-    loop-less
-    loop-again
+    invariant-loop
+    decreases_loop
+    loop_holds
+    mul_value
+    shared_slice_read_digit_value
+    digit_value_requires
+    add_value
+    add_i
+    loop_less
+    loop_again
     returns)

@@ -1,69 +1,69 @@
 -- `pattern_minus` takes a bit of the row that the tables have for the stream.
-use Prim.Native.Nat.{_+_, _<_}
+use Prim.Native.Nat.{◌+◌, ◌<◌}
 use native.Mathlib.Omega.{arith}
-use borrow.Author.Needs.{needs}
-use Rattle·pilots·specs.specs.Pilots.{patternOf}
-use Rattle·chain.proofs.Counts.{width-other}
-use Rattle·pilots·proofs.proofs.PilotLaws.{bit-in, row-says, row-small, value-small}
-use Rattle·pilots·proofs.proofs.pilot.pattern_minus.Statement.{statement}
-use Rattle·pilots·proofs.proofs.pilot.pattern_minus.Tie as tie
+use borrow.Author.Rules.{rules}
+use Rattle.pilots.specs.Pilots.{pattern_of}
+use Rattle.chain.proofs.Counts.{width_other}
+use Rattle.pilots.proofs.PilotLaws.{bit_in_lem, row_says, row_small, value_small}
+use Rattle.pilots.proofs.pilot.pattern_minus.Statement.{statement}
+use Rattle.pilots.proofs.pilot.pattern_minus.Tie as tie
 
 -- the code's rows are those of the width's table
 returns : tie.Need-returns
-unfolding patternOf
+unfolding pattern_of
 returns c =
-    let a = c .before .before .args in
-    rw bit-in (row-says _ 40 (a .width) (a .streams) (a .i) (a .k) _ tt (c .if1 .taken) (c .before .before .pre) (c .before .rows-before .ensures))
+    let a = c.before.before.args in
+    rw bit_in_lem (row_says _ 40 a.width a.streams a.i a.k _ tt c.if1.true c.before.before.requires c.before.rows_before.ensures)
 
-returns-2 : tie.Need-returns-2
-unfolding patternOf
-returns-2 c =
-    let a = c .before .before .args in
-    let asked = c .before .before .pre in
-    let is-20 = width-other (a .width) (asked .known-width) (c .if1 .left) in
-    rw bit-in (row-says _ 20 (a .width) (a .streams) (a .i) (a .k) _ tt is-20 asked (c .before .rows-before .ensures))
+returns_2 : tie.Need-returns-2
+unfolding pattern_of
+returns_2 c =
+    let a = c.before.before.args in
+    let asked = c.before.before.requires in
+    let is-20 = width_other a.width asked.known_width c.if1.false in
+    rw bit_in_lem (row_says _ 20 a.width a.streams a.i a.k _ tt is-20 asked c.before.rows_before.ensures)
 
-rows-before-requires : tie.Need-rows-before-requires
-rows-before-requires c κs = search needs
+rows_before_requires : tie.Need-rows-before-requires
+rows_before_requires c κs = search rules
 
-row-inside : (c : tie.After-rows-before) → c .rows-before .result + c .before .args .i < 10
-row-inside c = row-small (c .before .args .streams) _ _ (c .before .pre .known-streams) (c .before .pre .stream) (c .rows-before .ensures)
+row_inside : (c : tie.After-rows-before) → c.rows_before.result + c.before.args.i < 10
+row_inside c = row_small c.before.args.streams _ _ c.before.requires.known_streams c.before.requires.stream c.rows_before.ensures
 
-value-inside : (c : tie.After-rows-before) → c .before .args .k < 6
-value-inside c = value-small (c .before .args .width) _ (c .before .pre .place)
+value_inside : (c : tie.After-rows-before) → c.before.args.k < 6
+value_inside c = value_small c.before.args.width _ c.before.requires.place
 
-add-row : tie.Need-add-row
-add-row c = record { fits = omega (arith, row-inside c) }
+add_row : tie.Need-overflow-add-row
+add_row c = record { fits = omega (arith, row_inside c) }
 
-array-read-result : tie.Need-array-read-result
-array-read-result c = row-inside (c .before)
+array_read_result : tie.Need-array-read-result
+array_read_result c = row_inside c.before
 
-cast-result : tie.Need-cast-result
-cast-result c = record { fits = omega (arith, value-inside (c .before)) }
+cast_result : tie.Need-overflow-cast-result
+cast_result c = record { fits = omega (arith, value_inside c.before) }
 
-shr-result : tie.Need-shr-result
-shr-result c = omega (arith, value-inside (c .before))
+shr_result : tie.Need-overflow-shr-result
+shr_result c = omega (arith, value_inside c.before)
 
-array-read-result-2 : tie.Need-array-read-result-2
-array-read-result-2 c = row-inside (c .before)
+array_read_result_2 : tie.Need-array-read-result-2
+array_read_result_2 c = row_inside c.before
 
-cast-result-2 : tie.Need-cast-result-2
-cast-result-2 c = record { fits = omega (arith, value-inside (c .before)) }
+cast_result_2 : tie.Need-overflow-cast-result-2
+cast_result_2 c = record { fits = omega (arith, value_inside c.before) }
 
-shr-result-2 : tie.Need-shr-result-2
-shr-result-2 c = omega (arith, value-inside (c .before))
+shr_result_2 : tie.Need-overflow-shr-result-2
+shr_result_2 c = omega (arith, value_inside c.before)
 
-pub pattern-minus-spec : {M : Type 1} → statement M
-pattern-minus-spec =
+pub pattern_minus_spec : {M : Type 1} → statement M
+pattern_minus_spec =
     tie.close
     (tie.spec
-    rows-before-requires
-    add-row
-    array-read-result
-    cast-result
-    shr-result
+    rows_before_requires
+    add_row
+    array_read_result
+    cast_result
+    shr_result
     returns
-    array-read-result-2
-    cast-result-2
-    shr-result-2
-    returns-2)
+    array_read_result_2
+    cast_result_2
+    shr_result_2
+    returns_2)

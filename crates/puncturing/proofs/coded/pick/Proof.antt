@@ -1,83 +1,82 @@
 -- `puncturing::coded::pick`: the loop's store of the sum at each place fills the coded bits. Assumes nothing.
 use mathlib.Core.Path.{refl}
-use Prim.Native.Nat.{_+_, _-_, _<_, _≤_}
+use Prim.Native.Nat.{◌+◌, ◌-◌, ◌<◌, ◌≤◌}
 use native.Mathlib.Omega.{arith}
-use lib.ListN.{getD}
-use denote.Ref.{now}
-use Rattle·laws.specs.Filled.{Filled}
-use Rattle·laws.proofs.Filling.{fill-none, fill-more, fill-end}
-use borrow.Author.Needs.{needs}
-use Rattle·puncturing·proofs.proofs.coded.pick.Statement.{statement}
-use Rattle·puncturing·proofs.proofs.coded.pick.Tie as tie
+use lib.ListN.{get_or}
+use Rattle.laws.specs.Filled.{Filled}
+use Rattle.laws.proofs.Filling.{fill_none, fill_more, fill_end}
+use borrow.Author.Rules.{rules}
+use Rattle.puncturing.proofs.coded.pick.Statement.{statement}
+use Rattle.puncturing.proofs.coded.pick.Tie as tie
 
-abbrev Inv-loop : tie.InvT-loop
-Inv-loop coded₀ sums places to j count y₀ coded y = (y ≤ count) × Filled 0 to (λ k. getD sums (getD places k 0 + j) 0) y coded₀ coded
+abbrev invariant-loop : tie.invariant-loop
+invariant-loop coded₀ sums places to j count y₀ coded y = (y ≤ count) × Filled 0 to (λ k. get_or sums (get_or places k 0 + j) 0) y coded₀ coded
 
-abbrev μ-loop : tie.MeasureT-loop
-μ-loop coded₀ sums places to j count y₀ coded y = count - y
+abbrev decreases_loop : tie.decreases-loop
+decreases_loop coded₀ sums places to j count y₀ coded y = count - y
 
-abbrev start : tie.In-loop Inv-loop μ-loop → tie.Start Inv-loop μ-loop
-start c = c .before .before
+abbrev start : tie.In-loop invariant-loop decreases_loop → tie.Start invariant-loop decreases_loop
+start c = c.before.before
 
 -- the place that a turn reads
-abbrev inside : (c : tie.In-loop Inv-loop μ-loop) → getD (now (start c .args .places)) (c .before .loop .y) 0 + start c .args .j < 4320
-inside c = start c .pre .inside (c .before .loop .y) (c .loop-test .taken)
+abbrev inside : (c : tie.In-loop invariant-loop decreases_loop) → get_or (start c).args.places.now c.before.loop.y 0 + (start c).args.j < 4320
+inside c = (start c).requires.inside c.before.loop.y c.loop-test.true
 
-loop-holds : tie.Need-loop-holds Inv-loop μ-loop
-loop-holds c = (search needs, fill-none _ _ _ _)
+loop_holds : tie.Need-loop-init invariant-loop decreases_loop
+loop_holds c = (search rules, fill_none _ _ _ _)
 
-mul-coded : tie.Need-mul-coded Inv-loop μ-loop
-mul-coded c = search needs
+mul_coded : tie.Need-overflow-mul-coded invariant-loop decreases_loop
+mul_coded c = search rules
 
-shared-slice-read-coded : tie.Need-shared-slice-read-coded Inv-loop μ-loop
-shared-slice-read-coded c = search needs
+shared_slice_read_coded : tie.Need-shared-slice-read-coded invariant-loop decreases_loop
+shared_slice_read_coded c = search rules
 
-cast-coded : tie.Need-cast-coded Inv-loop μ-loop
-cast-coded c = omega (arith, inside (c .before))
+cast_coded : tie.Need-overflow-cast-coded invariant-loop decreases_loop
+cast_coded c = omega (arith, inside c.before)
 
-add-coded : tie.Need-add-coded Inv-loop μ-loop
-add-coded c = omega (arith, inside (c .before))
+add_coded : tie.Need-overflow-add-coded invariant-loop decreases_loop
+add_coded c = omega (arith, inside c.before)
 
-shared-slice-read-coded-2 : tie.Need-shared-slice-read-coded-2 Inv-loop μ-loop
-shared-slice-read-coded-2 c = omega (arith, inside (c .before .before))
+shared_slice_read_coded_2 : tie.Need-shared-slice-read-coded-2 invariant-loop decreases_loop
+shared_slice_read_coded_2 c = omega (arith, inside c.before.before)
 
-add-coded-2 : tie.Need-add-coded-2 Inv-loop μ-loop
-add-coded-2 c = search needs
+add_coded_2 : tie.Need-overflow-add-coded-2 invariant-loop decreases_loop
+add_coded_2 c = search rules
 
-slice-write-coded : tie.Need-slice-write-coded Inv-loop μ-loop
-slice-write-coded c = search needs
+slice_write_coded : tie.Need-slice-write-coded invariant-loop decreases_loop
+slice_write_coded c = search rules
 
-add-y : tie.Need-add-y Inv-loop μ-loop
-add-y c = search needs
+add_y : tie.Need-overflow-add-y invariant-loop decreases_loop
+add_y c = search rules
 
-loop-less : tie.Need-loop-less Inv-loop μ-loop
-loop-less c = search needs
+loop_less : tie.Need-loop-smaller invariant-loop decreases_loop
+loop_less c = search rules
 
-loop-again : tie.Need-loop-again Inv-loop μ-loop
-loop-again c = (omega arith, fill-more _ _ _ _ _ _ _ _ refl (omega arith) refl (c .before .before .before .loop .inv .1))
+loop_again : tie.Need-loop-preserved invariant-loop decreases_loop
+loop_again c = (omega arith, fill_more _ _ _ _ _ _ _ _ refl (omega arith) refl c.before.before.before.loop.invariant.1)
 
-same-length : tie.Need-same-length Inv-loop μ-loop
-same-length c = search needs
+same_length : tie.Need-same-length invariant-loop decreases_loop
+same_length c = search rules
 
-returns : tie.Need-returns Inv-loop μ-loop
-returns c = fill-end _ _ _ (omega arith) (c .before .loop .inv .1)
+returns : tie.Need-returns invariant-loop decreases_loop
+returns c = fill_end _ _ _ (omega arith) c.before.loop.invariant.1
 
-pub pick-spec : {M : Type 1} → statement M
-pick-spec =
+pub pick_spec : {M : Type 1} → statement M
+pick_spec =
     tie.close
     (tie.spec
-    Inv-loop
-    μ-loop
-    loop-holds
-    mul-coded
-    shared-slice-read-coded
-    cast-coded
-    add-coded
-    shared-slice-read-coded-2
-    add-coded-2
-    slice-write-coded
-    add-y
-    loop-less
-    loop-again
-    same-length
+    invariant-loop
+    decreases_loop
+    loop_holds
+    mul_coded
+    shared_slice_read_coded
+    cast_coded
+    add_coded
+    shared_slice_read_coded_2
+    add_coded_2
+    slice_write_coded
+    add_y
+    loop_less
+    loop_again
+    same_length
     returns)

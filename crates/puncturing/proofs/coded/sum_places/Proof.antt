@@ -1,62 +1,62 @@
 -- `puncturing::coded::sum_places`: the loop's store of each place fills the places. Assumes nothing.
-use Prim.Native.Nat.{_-_, _≤_}
+use Prim.Native.Nat.{◌-◌, ◌≤◌}
 use native.Mathlib.Omega.{arith}
-use borrow.Author.Needs.{needs}
-use Rattle·laws.specs.Filled.{Filled}
-use Rattle·laws.proofs.Filling.{fill-none, fill-more, fill-end}
-use Rattle·puncturing·specs.specs.Coded.{sumPlace}
-use Rattle·puncturing·proofs.proofs.coded.sum_places.Statement.{statement}
-use Rattle·puncturing·proofs.proofs.coded.sum_places.Tie as tie
+use borrow.Author.Rules.{rules}
+use Rattle.laws.specs.Filled.{Filled}
+use Rattle.laws.proofs.Filling.{fill_none, fill_more, fill_end}
+use Rattle.puncturing.specs.Coded.{sum_place}
+use Rattle.puncturing.proofs.coded.sum_places.Statement.{statement}
+use Rattle.puncturing.proofs.coded.sum_places.Tie as tie
 
-abbrev Inv-loop : tie.InvT-loop
-Inv-loop places₀ kept encoders count y₀ places y = (y ≤ count) × Filled 0 0 (λ k. sumPlace kept encoders k) y places₀ places
+abbrev invariant-loop : tie.invariant-loop
+invariant-loop places₀ kept encoders count y₀ places y = (y ≤ count) × Filled 0 0 (λ k. sum_place kept encoders k) y places₀ places
 
-abbrev μ-loop : tie.MeasureT-loop
-μ-loop places₀ kept encoders count y₀ places y = count - y
+abbrev decreases_loop : tie.decreases-loop
+decreases_loop places₀ kept encoders count y₀ places y = count - y
 
-returns : tie.Need-returns Inv-loop μ-loop
-returns c = fill-end _ _ _ (omega arith) (c .before .loop .inv .1)
+returns : tie.Need-returns invariant-loop decreases_loop
+returns c = fill_end _ _ _ (omega arith) c.before.loop.invariant.1
 
-loop-again : tie.Need-loop-again Inv-loop μ-loop
-loop-again c = (search needs, fill-more _ _ _ _ _ _ _ _ (omega arith) (omega arith) (c .sum-place .ensures) (c .before .before .loop .inv .1))
+loop_again : tie.Need-loop-preserved invariant-loop decreases_loop
+loop_again c = (search rules, fill_more _ _ _ _ _ _ _ _ (omega arith) (omega arith) c.sum-place.ensures c.before.before.loop.invariant.1)
 
-loop-holds : tie.Need-loop-holds Inv-loop μ-loop
-loop-holds c = (search needs, fill-none _ _ _ _)
+loop_holds : tie.Need-loop-init invariant-loop decreases_loop
+loop_holds c = (search rules, fill_none _ _ _ _)
 
-sum-place-requires : tie.Need-sum-place-requires Inv-loop μ-loop
-sum-place-requires c κs = search needs
+sum_place_requires : tie.Need-sum-place-requires invariant-loop decreases_loop
+sum_place_requires c κs = search rules
 
-cast-places : tie.Need-cast-places Inv-loop μ-loop
-cast-places c = search needs
+cast_places : tie.Need-overflow-cast-places invariant-loop decreases_loop
+cast_places c = search rules
 
-mul-places : tie.Need-mul-places Inv-loop μ-loop
-mul-places c = search needs
+mul_places : tie.Need-overflow-mul-places invariant-loop decreases_loop
+mul_places c = search rules
 
-slice-write-places : tie.Need-slice-write-places Inv-loop μ-loop
-slice-write-places c = search needs
+slice_write_places : tie.Need-slice-write-places invariant-loop decreases_loop
+slice_write_places c = search rules
 
-add-y : tie.Need-add-y Inv-loop μ-loop
-add-y c = search needs
+add_y : tie.Need-overflow-add-y invariant-loop decreases_loop
+add_y c = search rules
 
-loop-less : tie.Need-loop-less Inv-loop μ-loop
-loop-less c = search needs
+loop_less : tie.Need-loop-smaller invariant-loop decreases_loop
+loop_less c = search rules
 
-same-length : tie.Need-same-length Inv-loop μ-loop
-same-length c = search needs
+same_length : tie.Need-same-length invariant-loop decreases_loop
+same_length c = search rules
 
-pub sum-places-spec : {M : Type 1} → statement M
-sum-places-spec =
+pub sum_places_spec : {M : Type 1} → statement M
+sum_places_spec =
     tie.close
     (tie.spec
-    Inv-loop
-    μ-loop
-    loop-holds
-    sum-place-requires
-    cast-places
-    mul-places
-    slice-write-places
-    add-y
-    loop-less
-    loop-again
-    same-length
+    invariant-loop
+    decreases_loop
+    loop_holds
+    sum_place_requires
+    cast_places
+    mul_places
+    slice_write_places
+    add_y
+    loop_less
+    loop_again
+    same_length
     returns)

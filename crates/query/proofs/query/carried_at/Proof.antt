@@ -1,81 +1,80 @@
 -- `carried_at` goes by the use of the subcarrier.
-use mathlib.Core.Path.{_≡_, _∙_, sym, ap}
-use mir.Facts.{toZ-ofZ}
-use denote.Ref.{now}
-use borrow.Author.Needs.{needs}
-use Rattle·subcarriers.specs.Subcarriers.{useOf}
-use Rattle·frame.proofs.FrameLaws.{symbol-near}
-use Rattle·query·proofs.proofs.QueryLaws.{inside-width, carried-silent, carried-pilot, carried-data, pilot-in, data-in}
-use Rattle·query·proofs.proofs.query.carried_at.Statement.{statement}
-use Rattle·query·proofs.proofs.query.carried_at.Tie as tie
+use mathlib.Core.Path.{◌≡◌, ◌∙◌, sym, ap}
+use mir.Facts.{to_z-of_z}
+use borrow.Author.Rules.{rules}
+use Rattle.subcarriers.specs.Subcarriers.{use_of}
+use Rattle.frame.proofs.FrameLaws.{symbol_near}
+use Rattle.query.proofs.QueryLaws.{inside_width, carried_silent, carried_pilot, carried_data, pilot_in, data_in}
+use Rattle.query.proofs.query.carried_at.Statement.{statement}
+use Rattle.query.proofs.query.carried_at.Tie as tie
 
 -- the entry, and the use that was found
 abbrev start : tie.After-use-of → tie.Start
-start c = c .before .before
+start c = c.before.before
 
-found : (c : tie.After-use-of) → useOf (start c .args .s .width) (start c .args .subcarrier) ≡ c .use-of .result
-found c = sym (c .use-of .ensures ∙ ap (useOf (start c .args .s .width)) (toZ-ofZ (start c .fits .subcarrier)))
+found : (c : tie.After-use-of) → use_of (start c).args.s.width (start c).args.subcarrier ≡ c.use-of.result
+found c = sym (c.use-of.ensures ∙ ap (use_of (start c).args.s.width) (to_z-of_z (start c).ranges.subcarrier))
 
 returns : tie.Need-returns
 returns c =
-    let k = c .before .before in
-    let a = start k .args in
-    carried-silent (a .s) (now (a .payload)) (a .n) (a .i) (a .subcarrier) (found k ∙ c .enum-told .given .1)
+    let k = c.before.before in
+    let a = (start k).args in
+    carried_silent a.s a.payload.now a.n a.i a.subcarrier (found k ∙ c.enum_told.given.1)
 
-returns-2 : tie.Need-returns-2
-returns-2 c =
-    let u = c .before .before in
-    let k = u .before .before in
-    let a = start k .args in
-    carried-pilot (a .s) (now (a .payload)) (a .n) (a .i) (a .subcarrier) (u .used .given .0 .0) (c .pilot-at .result) (found k ∙ u .used .given .1) (c .pilot-at .ensures)
+returns_2 : tie.Need-returns-2
+returns_2 c =
+    let u = c.before.before in
+    let k = u.before.before in
+    let a = (start k).args in
+    carried_pilot a.s a.payload.now a.n a.i a.subcarrier u.used.given.0.0 c.pilot-at.result (found k ∙ u.used.given.1) c.pilot-at.ensures
 
-returns-3 : tie.Need-returns-3
-returns-3 c =
-    let u = c .before .before in
-    let k = u .before .before in
-    let a = start k .args in
-    carried-data (a .s) (now (a .payload)) (a .n) (a .i) (a .subcarrier) (u .used2 .given .0 .0) (c .point-at .result) (found k ∙ u .used2 .given .1) (c .point-at .ensures)
+returns_3 : tie.Need-returns-3
+returns_3 c =
+    let u = c.before.before in
+    let k = u.before.before in
+    let a = (start k).args in
+    carried_data a.s a.payload.now a.n a.i a.subcarrier u.used2.given.0.0 c.point_at.result (found k ∙ u.used2.given.1) c.point_at.ensures
 
-use-of-requires : tie.Need-use-of-requires
-use-of-requires c κs =
-    let a = c .before in
-    (a .pre .0 .right .width, rw (toZ-ofZ (a .fits .subcarrier)) (inside-width (a .args .s) (a .args .subcarrier) (a .pre .1 .1)))
+use_of_requires : tie.Need-use-of-requires
+use_of_requires c κs =
+    let a = c.before in
+    (a.requires.0.right.width, rw (to_z-of_z a.ranges.subcarrier) (inside_width a.args.s a.args.subcarrier a.requires.1.1))
 
-enum-told : tie.Need-enum-told
-enum-told c = search needs
+enum_told : tie.Need-enum-told
+enum_told c = search rules
 
-enum-known-used : tie.Need-enum-known-used
-enum-known-used c = search needs
+enum_known_used : tie.Need-enum-known-used
+enum_known_used c = search rules
 
-pilot-at-requires : tie.Need-pilot-at-requires
-pilot-at-requires c κs =
-    let u = c .before in
-    let k = u .before .before in
+pilot_at_requires : tie.Need-pilot-at-requires
+pilot_at_requires c κs =
+    let u = c.before in
+    let k = u.before.before in
     let a = start k in
-    let f = a .pre .0 in
-    let q = pilot-in (a .args .s) (f .right) (a .args .subcarrier) (a .pre .1 .1) (u .used .given .0 .0) (found k ∙ u .used .given .1) in
-    (f .right, (symbol-near (a .args .s) (a .args .n) (f .right) (f .below-count), (a .pre .1 .0, q)))
+    let f = a.pre.0 in
+    let q = pilot_in a.args.s f.right a.args.subcarrier a.pre.1.1 u.used.given.0.0 (found k ∙ u.used.given.1) in
+    (f.right, (symbol_near a.args.s a.args.n f.right f.below_count, (a.pre.1.0, q)))
 
-enum-known-used-2 : tie.Need-enum-known-used-2
-enum-known-used-2 c = search needs
+enum_known_used_2 : tie.Need-enum-known-used-2
+enum_known_used_2 c = search rules
 
-point-at-requires : tie.Need-point-at-requires
-point-at-requires c κs =
-    let u = c .before in
-    let k = u .before .before in
+point_at_requires : tie.Need-point-at-requires
+point_at_requires c κs =
+    let u = c.before in
+    let k = u.before.before in
     let a = start k in
-    (a .pre .0, (a .pre .1 .0, data-in (a .args .s) (a .pre .0 .right) (a .args .subcarrier) (a .pre .1 .1) (u .used2 .given .0 .0) (found k ∙ u .used2 .given .1)))
+    (a.pre.0, (a.pre.1.0, data_in a.args.s a.pre.0.right a.args.subcarrier a.pre.1.1 u.used2.given.0.0 (found k ∙ u.used2.given.1)))
 
-pub carried-at-spec : {M : Type 1} → statement M
-carried-at-spec =
+pub carried_at_spec : {M : Type 1} → statement M
+carried_at_spec =
     tie.close
     (tie.spec
-    use-of-requires
-    enum-told
-    enum-known-used
-    pilot-at-requires
-    enum-known-used-2
-    point-at-requires
+    use_of_requires
+    enum_told
+    enum_known_used
+    pilot_at_requires
+    enum_known_used_2
+    point_at_requires
     returns
-    returns-2
-    returns-3)
+    returns_2
+    returns_3)

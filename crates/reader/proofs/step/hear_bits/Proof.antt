@@ -1,74 +1,73 @@
 -- `hear_bits` goes by whether inputs exist that give the coded bits.
-use mathlib.Core.Path.{_∙_, refl, sym}
+use mathlib.Core.Path.{◌∙◌, refl, sym}
 use native.Mathlib.Omega.{arith}
-use denote.Ref.{now}
-use Rattle·reader·proofs.proofs.HearLaws.{inputs-asked, inputs-at, frame-asked, sound-by, after-by, bits-heard, bits-refused}
-use Rattle·deinterleaver.specs.Deinterleaved.{labelBitIn}
-use Rattle·settings.specs.Settings.{planFor}
-use borrow.Author.Needs.{needs}
-use Rattle·reader·proofs.proofs.step.hear_bits.Statement.{statement}
-use Rattle·reader·proofs.proofs.step.hear_bits.Tie as tie
+use Rattle.reader.proofs.HearLaws.{inputs_asked, inputs_at, frame_asked, sound_by, after_by, bits_heard, bits_refused}
+use Rattle.deinterleaver.specs.Deinterleaved.{label_bit_in}
+use Rattle.settings.specs.Settings.{plan_for}
+use borrow.Author.Rules.{rules}
+use Rattle.reader.proofs.step.hear_bits.Statement.{statement}
+use Rattle.reader.proofs.step.hear_bits.Tie as tie
 
 -- the entry, from the call that decodes
 abbrev entry : tie.After-symbol-inputs → tie.Start
-entry k = k .before .before .before .before .before .before
+entry k = k.before.before.before.before.before.before
 
-slice-aggregate-symbol-inputs : tie.Need-slice-aggregate-symbol-inputs
-slice-aggregate-symbol-inputs c = search needs
+slice_aggregate_symbol_inputs : tie.Need-slice-aggregate-symbol-inputs
+slice_aggregate_symbol_inputs c = search rules
 
-plan-of-requires : tie.Need-plan-of-requires
-plan-of-requires c κs = search needs
+plan_of_requires : tie.Need-plan-of-requires
+plan_of_requires c κs = search rules
 
-symbol-inputs-requires : tie.Need-symbol-inputs-requires
-symbol-inputs-requires c κs =
-    let a = c .before .before .before .before .before in
-    inputs-asked (a .args .s) (a .args .reader) (c .plan-of .result) (c .plan-of .ensures) _ _ _ (a .pre) (omega arith)
+symbol_inputs_requires : tie.Need-symbol-inputs-requires
+symbol_inputs_requires c κs =
+    let a = c.before.before.before.before.before in
+    inputs_asked a.args.s a.args.reader c.plan-of.result c.plan-of.ensures _ _ _ a.requires (omega arith)
 
-slice-aggregate-hear-inputs : tie.Need-slice-aggregate-hear-inputs
-slice-aggregate-hear-inputs c = search needs
+slice_aggregate_hear_inputs : tie.Need-slice-aggregate-hear-inputs
+slice_aggregate_hear_inputs c = search rules
 
-hear-inputs-requires : tie.Need-hear-inputs-requires
-hear-inputs-requires c κs =
-    let k = c .before .before .before .before .before in
+hear_inputs_requires : tie.Need-hear-inputs-requires
+hear_inputs_requires c κs =
+    let k = c.before.before.before.before.before in
     let a = entry k in
-    frame-asked (a .args .s) (a .args .reader) (k .before .plan-of .result) (k .before .plan-of .ensures) (now (a .args .bits)) _ _ (k .symbol-inputs .ensures .0) _ (a .pre) (omega (arith, k .symbol-inputs .ensures .0 .same))
+    frame_asked a.args.s a.args.reader k.before.plan-of.result k.before.plan-of.ensures a.args.bits.now _ _ k.symbol-inputs.ensures.0 _ a.pre (omega (arith, k.symbol-inputs.ensures.0.same))
 
-same-length : tie.Need-same-length
-same-length c = search needs
+same_length : tie.Need-same-length
+same_length c = search rules
 
 returns : tie.Need-returns
 returns c =
-    let i = c .before .before .before .before .before .before in
-    let k = i .before .before in
-    let p = k .before in
+    let i = c.before.before.before.before.before.before in
+    let k = i.before.before in
+    let p = k.before in
     let a = entry k in
-    bits-heard (a .args .s) (a .pre .right) (a .args .reader) (labelBitIn (planFor (a .args .s)) (now (a .args .bits))) (k .symbol-inputs .last .0)
-    (inputs-at (a .args .s) (a .args .reader) (p .plan-of .result) (p .plan-of .ensures) (now (a .args .bits)) _ _ (k .symbol-inputs .ensures .0))
+    bits_heard a.args.s a.pre.right a.args.reader (label_bit_in (plan_for a.args.s) a.args.bits.now) k.symbol-inputs.new.0
+    (inputs_at a.args.s a.args.reader p.plan-of.result p.plan-of.ensures a.args.bits.now _ _ k.symbol-inputs.ensures.0)
     _ _ _ _
-    (sym (sound-by (a .args .s) (a .args .reader) (p .plan-of .result) (p .plan-of .ensures) (now (a .args .bits))
-    (k .symbol-inputs .result .sound) (k .symbol-inputs .ensures .1 .0)) ∙ i .if1 .taken)
-    (after-by (a .args .s) (a .args .reader) (p .plan-of .result) (p .plan-of .ensures) (now (a .args .bits)) (k .symbol-inputs .result .histories) (k .symbol-inputs .ensures .1 .1)) (c .before .before .hear-inputs .ensures)
+    (sym (sound_by a.args.s a.args.reader p.plan-of.result p.plan-of.ensures a.args.bits.now
+    k.symbol-inputs.result.sound k.symbol-inputs.ensures.1.0) ∙ i.if1.true)
+    (after_by a.args.s a.args.reader p.plan-of.result p.plan-of.ensures a.args.bits.now k.symbol-inputs.result.histories k.symbol-inputs.ensures.1.1) c.before.before.hear-inputs.ensures
 
-ended-requires : tie.Need-ended-requires
-ended-requires c κs = search needs
+ended_requires : tie.Need-ended-requires
+ended_requires c κs = search rules
 
-returns-2 : tie.Need-returns-2
-returns-2 c =
-    let k = c .before .before .before in
-    let p = k .before in
+returns_2 : tie.Need-returns-2
+returns_2 c =
+    let k = c.before.before.before in
+    let p = k.before in
     let a = entry k in
-    (bits-refused (a .args .s) (a .pre .right) (a .args .reader) (labelBitIn (planFor (a .args .s)) (now (a .args .bits))) _ (sym (sound-by (a .args .s) (a .args .reader) (p .plan-of .result) (p .plan-of .ensures) (now (a .args .bits)) (k .symbol-inputs .result .sound) (k .symbol-inputs .ensures .1 .0)) ∙ c .before .if1 .left) (c .ended .ensures), refl)
+    (bits_refused a.args.s a.pre.right a.args.reader (label_bit_in (plan_for a.args.s) a.args.bits.now) _ (sym (sound_by a.args.s a.args.reader p.plan-of.result p.plan-of.ensures a.args.bits.now k.symbol-inputs.result.sound k.symbol-inputs.ensures.1.0) ∙ c.before.if1.false) c.ended.ensures, refl)
 
-pub hear-bits-spec : {M : Type 1} → statement M
-hear-bits-spec =
+pub hear_bits_spec : {M : Type 1} → statement M
+hear_bits_spec =
     tie.close
     (tie.spec
-    slice-aggregate-symbol-inputs
-    plan-of-requires
-    symbol-inputs-requires
-    slice-aggregate-hear-inputs
-    hear-inputs-requires
-    same-length
+    slice_aggregate_symbol_inputs
+    plan_of_requires
+    symbol_inputs_requires
+    slice_aggregate_hear_inputs
+    hear_inputs_requires
+    same_length
     returns
-    ended-requires
-    returns-2)
+    ended_requires
+    returns_2)

@@ -1,31 +1,31 @@
 -- `bad_part` compares with the power that the payload bits before the symbol leave.
 use native.Mathlib.Omega.{arith}
-use Rattle·reader_state·proofs.proofs.StateLaws.{bits-near, part-by}
-use borrow.Author.Needs.{needs}
-use Rattle·reader_state·proofs.proofs.state.bad_part.Statement.{statement}
-use Rattle·reader_state·proofs.proofs.state.bad_part.Tie as tie
+use Rattle.reader_state.proofs.StateLaws.{bits_near, part_by}
+use borrow.Author.Rules.{rules}
+use Rattle.reader_state.proofs.state.bad_part.Statement.{statement}
+use Rattle.reader_state.proofs.state.bad_part.Tie as tie
 
-plan-of-requires : tie.Need-plan-of-requires
-plan-of-requires c κs = search needs
+plan_of_requires : tie.Need-plan-of-requires
+plan_of_requires c κs = search rules
 
-mul-payload-before : tie.Need-mul-payload-before
-mul-payload-before c =
-    let a = c .before .before in
-    omega (arith, bits-near (a .args .s) (c .before .plan-of .result) (c .before .plan-of .ensures) (a .pre .0) (a .args .symbol) (a .pre .1))
+mul_payload_before : tie.Need-overflow-mul-payload-before
+mul_payload_before c =
+    let a = c.before.before in
+    omega (arith, bits_near a.args.s c.before.plan-of.result c.before.plan-of.ensures a.requires.0 a.args.symbol a.requires.1)
 
-payload-before-requires : tie.Need-payload-before-requires
-payload-before-requires c κs = let a = c .before .before in omega (arith, a .pre .0 .length-most)
+payload_before_requires : tie.Need-payload-before-requires
+payload_before_requires c κs = let a = c.before.before in omega (arith, a.requires.0.length_most)
 
-power-requires : tie.Need-power-requires
-power-requires c κs = search needs
+power_requires : tie.Need-power-requires
+power_requires c κs = search rules
 
 returns : tie.Need-returns
 returns c =
-    let p = c .before .before .before in
-    let a = p .before in
-    part-by (a .args .s) (p .plan-of .result) (p .plan-of .ensures) (a .args .symbol) _ _ (a .args .part) (c .before .payload-before .ensures) (c .power .ensures)
+    let p = c.before.before.before in
+    let a = p.before in
+    part_by a.args.s p.plan-of.result p.plan-of.ensures a.args.symbol _ _ a.args.part c.before.payload-before.ensures c.power.ensures
 
-pub bad-part-spec : {M : Type 1} → statement M
-bad-part-spec =
+pub bad_part_spec : {M : Type 1} → statement M
+bad_part_spec =
     tie.close
-    (tie.spec plan-of-requires mul-payload-before payload-before-requires power-requires returns)
+    (tie.spec plan_of_requires mul_payload_before payload_before_requires power_requires returns)

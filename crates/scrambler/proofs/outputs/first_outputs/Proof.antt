@@ -1,67 +1,67 @@
 -- `first_outputs` stores one output a turn and steps on.
-use mathlib.Core.Path.{_≡_, _∙_, sym, ap}
-use Prim.Native.Nat.{_-_, _<_, _≤_}
+use mathlib.Core.Path.{◌≡◌, ◌∙◌, sym, ap}
+use Prim.Native.Nat.{◌-◌, ◌<◌, ◌≤◌}
 use native.Mathlib.Omega.{arith}
-use borrow.Author.Needs.{needs}
-use Rattle·laws.specs.Filled.{Filled}
-use Rattle·laws.proofs.Filling.{fill-none, fill-more, fill-end}
-use Rattle·chain.specs.Scrambler.{output, next, stateAt, scramblerBit}
-use Rattle·chain.proofs.ScramblerLaws.{state-zero, step-more}
-use Rattle·scrambler·proofs.proofs.outputs.first_outputs.Statement.{statement}
-use Rattle·scrambler·proofs.proofs.outputs.first_outputs.Tie as tie
+use borrow.Author.Rules.{rules}
+use Rattle.laws.specs.Filled.{Filled}
+use Rattle.laws.proofs.Filling.{fill_none, fill_more, fill_end}
+use Rattle.chain.specs.Scrambler.{output, next, state_at, scrambler_bit}
+use Rattle.chain.proofs.ScramblerLaws.{state_zero, step_more}
+use Rattle.scrambler.proofs.outputs.first_outputs.Statement.{statement}
+use Rattle.scrambler.proofs.outputs.first_outputs.Tie as tie
 
-abbrev Inv-loop : tie.InvT-loop
-Inv-loop outputs₀ state count now-at₀ t₀ outputs now-at t =
-    (t ≤ count) × Filled 0 0 (λ k. scramblerBit state k) t outputs₀ outputs × (now-at ≡ stateAt state t) × (now-at < 128)
+abbrev invariant-loop : tie.invariant-loop
+invariant-loop outputs₀ state count now-at₀ t₀ outputs now-at t =
+    (t ≤ count) × Filled 0 0 (λ k. scrambler_bit state k) t outputs₀ outputs × (now-at ≡ state_at state t) × (now-at < 128)
 
-abbrev μ-loop : tie.MeasureT-loop
-μ-loop outputs₀ state count now-at₀ t₀ outputs now-at t = count - t
+abbrev decreases_loop : tie.decreases-loop
+decreases_loop outputs₀ state count now-at₀ t₀ outputs now-at t = count - t
 
-loop-holds : tie.Need-loop-holds Inv-loop μ-loop
-loop-holds c = (omega arith, fill-none _ _ _ _, sym (state-zero _), omega arith)
+loop_holds : tie.Need-loop-init invariant-loop decreases_loop
+loop_holds c = (omega arith, fill_none _ _ _ _, sym (state_zero _), omega arith)
 
-output-of-requires : tie.Need-output-of-requires Inv-loop μ-loop
-output-of-requires c κs = search needs
+output_of_requires : tie.Need-output-of-requires invariant-loop decreases_loop
+output_of_requires c κs = search rules
 
-slice-write-outputs : tie.Need-slice-write-outputs Inv-loop μ-loop
-slice-write-outputs c = search needs
+slice_write_outputs : tie.Need-slice-write-outputs invariant-loop decreases_loop
+slice_write_outputs c = search rules
 
-step-requires : tie.Need-step-requires Inv-loop μ-loop
-step-requires c κs = search needs
+step_requires : tie.Need-step-requires invariant-loop decreases_loop
+step_requires c κs = search rules
 
-add-t : tie.Need-add-t Inv-loop μ-loop
-add-t c = search needs
+add_t : tie.Need-overflow-add-t invariant-loop decreases_loop
+add_t c = search rules
 
-loop-less : tie.Need-loop-less Inv-loop μ-loop
-loop-less c = search needs
+loop_less : tie.Need-loop-smaller invariant-loop decreases_loop
+loop_less c = search rules
 
-loop-again : tie.Need-loop-again Inv-loop μ-loop
-loop-again c =
-    let inv = c .before .before .before .loop .inv in (
-      search needs,
-      fill-more _ _ _ _ _ _ _ _ (omega arith) (omega arith) (c .before .output-of .ensures ∙ ap output (inv .2)) (inv .1),
-      c .step .ensures ∙ ap next (inv .2) ∙ step-more _ _,
-      omega (arith, c .step .ensures),
+loop_again : tie.Need-loop-preserved invariant-loop decreases_loop
+loop_again c =
+    let inv = c.before.before.before.loop.invariant in (
+      search rules,
+      fill_more _ _ _ _ _ _ _ _ (omega arith) (omega arith) (c.before.output-of.ensures ∙ ap output inv.2) inv.1,
+      c.step.ensures ∙ ap next inv.2 ∙ step_more _ _,
+      omega (arith, c.step.ensures),
     )
 
-same-length : tie.Need-same-length Inv-loop μ-loop
-same-length c = search needs
+same_length : tie.Need-same-length invariant-loop decreases_loop
+same_length c = search rules
 
-returns : tie.Need-returns Inv-loop μ-loop
-returns c = fill-end _ _ _ (omega arith) (c .before .loop .inv .1)
+returns : tie.Need-returns invariant-loop decreases_loop
+returns c = fill_end _ _ _ (omega arith) c.before.loop.invariant.1
 
-pub first-outputs-spec : {M : Type 1} → statement M
-first-outputs-spec =
+pub first_outputs_spec : {M : Type 1} → statement M
+first_outputs_spec =
     tie.close
     (tie.spec
-    Inv-loop
-    μ-loop
-    loop-holds
-    output-of-requires
-    slice-write-outputs
-    step-requires
-    add-t
-    loop-less
-    loop-again
-    same-length
+    invariant-loop
+    decreases_loop
+    loop_holds
+    output_of_requires
+    slice_write_outputs
+    step_requires
+    add_t
+    loop_less
+    loop_again
+    same_length
     returns)

@@ -1,18 +1,18 @@
 -- `jump_1` goes by bit 0 of the number.
 use native.Mathlib.Omega.{arith}
-use borrow.Author.Needs.{needs}
-use Rattle·scrambler·proofs.proofs.Jumps.{jump-none, jump-1-is}
-use Rattle·scrambler·proofs.proofs.register.jump_1.Statement.{statement}
-use Rattle·scrambler·proofs.proofs.register.jump_1.Tie as tie
+use borrow.Author.Rules.{rules}
+use Rattle.scrambler.proofs.Jumps.{jump_none, jump_1_is}
+use Rattle.scrambler.proofs.register.jump_1.Statement.{statement}
+use Rattle.scrambler.proofs.register.jump_1.Tie as tie
 
 returns : tie.Need-returns
-returns c = jump-none _ _ _ (omega arith)
+returns c = jump_none _ _ _ (omega arith)
 
-step-requires : tie.Need-step-requires
-step-requires c κs = search needs
+step_requires : tie.Need-step-requires
+step_requires c κs = search rules
 
-returns-2 : tie.Need-returns-2
-returns-2 c = rw (c .step .ensures) (jump-1-is _ _ (omega arith))
+returns_2 : tie.Need-returns-2
+returns_2 c = rw c.step.ensures (jump_1_is _ _ (omega arith))
 
-pub jump-1-spec : {M : Type 1} → statement M
-jump-1-spec = tie.close (tie.spec returns step-requires returns-2)
+pub jump_1_spec : {M : Type 1} → statement M
+jump_1_spec = tie.close (tie.spec returns step_requires returns_2)

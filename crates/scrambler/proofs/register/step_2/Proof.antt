@@ -1,17 +1,17 @@
 -- `step_2` is two steps, as computed for every state.
-use borrow.Author.Needs.{needs}
-use Rattle·scrambler·proofs.proofs.Jumps.{step-2-is}
-use Rattle·scrambler·proofs.proofs.register.step_2.Statement.{statement}
-use Rattle·scrambler·proofs.proofs.register.step_2.Tie as tie
+use borrow.Author.Rules.{rules}
+use Rattle.scrambler.proofs.Jumps.{step_2_is}
+use Rattle.scrambler.proofs.register.step_2.Statement.{statement}
+use Rattle.scrambler.proofs.register.step_2.Tie as tie
 
 returns : tie.Need-returns
-returns c = step-2-is _ (c .pre)
+returns c = step_2_is _ c.requires
 
-mul-result : tie.Need-mul-result
-mul-result c = search needs
+mul_result : tie.Need-overflow-mul-result
+mul_result c = search rules
 
-add-result : tie.Need-add-result
-add-result c = search needs
+add_result : tie.Need-overflow-add-result
+add_result c = search rules
 
-pub step-2-spec : {M : Type 1} → statement M
-step-2-spec = tie.close (tie.spec mul-result add-result returns)
+pub step_2_spec : {M : Type 1} → statement M
+step_2_spec = tie.close (tie.spec mul_result add_result returns)

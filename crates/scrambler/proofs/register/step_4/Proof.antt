@@ -1,17 +1,17 @@
 -- `step_4` is four steps, as computed for every state.
-use borrow.Author.Needs.{needs}
-use Rattle·scrambler·proofs.proofs.Jumps.{step-4-is}
-use Rattle·scrambler·proofs.proofs.register.step_4.Statement.{statement}
-use Rattle·scrambler·proofs.proofs.register.step_4.Tie as tie
+use borrow.Author.Rules.{rules}
+use Rattle.scrambler.proofs.Jumps.{step_4_is}
+use Rattle.scrambler.proofs.register.step_4.Statement.{statement}
+use Rattle.scrambler.proofs.register.step_4.Tie as tie
 
 returns : tie.Need-returns
-returns c = step-4-is _ (c .pre)
+returns c = step_4_is _ c.requires
 
-mul-result : tie.Need-mul-result
-mul-result c = search needs
+mul_result : tie.Need-overflow-mul-result
+mul_result c = search rules
 
-add-result : tie.Need-add-result
-add-result c = search needs
+add_result : tie.Need-overflow-add-result
+add_result c = search rules
 
-pub step-4-spec : {M : Type 1} → statement M
-step-4-spec = tie.close (tie.spec mul-result add-result returns)
+pub step_4_spec : {M : Type 1} → statement M
+step_4_spec = tie.close (tie.spec mul_result add_result returns)

@@ -1,79 +1,78 @@
 -- `write` goes by the tests of its refusals; where none applies, six bytes are written.
-use mathlib.Core.Path.{_∙_, sym, ap, subst}
-use denote.Ref.{now}
-use Rattle·settings.specs.Settings.{checkOf, IsRefused}
-use Rattle·sig_words.specs.Words.{SigFits, sigWord}
-use Rattle·settings.proofs.SettingsLaws.{right}
-use Rattle·signal·proofs.proofs.HtSigLaws.{refused-write, no-room, wrote, sig-fits}
-use borrow.Author.Needs.{needs}
-use Rattle·signal·proofs.proofs.ht_sig.write.Statement.{statement}
-use Rattle·signal·proofs.proofs.ht_sig.write.Tie as tie
+use mathlib.Core.Path.{◌∙◌, sym, ap, subst}
+use Rattle.settings.specs.Settings.{check_of, IsRefused}
+use Rattle.sig_words.specs.Words.{SigFits, sig_word}
+use Rattle.settings.proofs.SettingsLaws.{right}
+use Rattle.signal.proofs.HtSigLaws.{refused_write, no_room_lem, wrote, sig_fits}
+use borrow.Author.Rules.{rules}
+use Rattle.signal.proofs.ht_sig.write.Statement.{statement}
+use Rattle.signal.proofs.ht_sig.write.Tie as tie
 
-check-requires : tie.Need-check-requires
-check-requires c κs = search needs
+check_requires : tie.Need-check-requires
+check_requires c κs = search rules
 
-enum-known-checked : tie.Need-enum-known-checked
-enum-known-checked c = search needs
+enum_known_checked : tie.Need-enum-known-checked
+enum_known_checked c = search rules
 
-enum-told : tie.Need-enum-told
-enum-told c = search needs
+enum_told : tie.Need-enum-told
+enum_told c = search rules
 
-refusal-of-requires : tie.Need-refusal-of-requires
-refusal-of-requires c κs = subst IsRefused (sym (c .enum-told .given .1)) tt
+refusal_of_requires : tie.Need-refusal-of-requires
+refusal_of_requires c κs = subst IsRefused (sym c.enum_told.given.1) tt
 
 returns : tie.Need-returns
 returns c =
-    let k = c .before .before .before in
-    let st = k .before .before in
-    refused-write (checkOf (st .args .raw)) (c .refusal-of .result) (now (st .args .out)) (sym (k .check .ensures) ∙ c .refusal-of .ensures)
+    let k = c.before.before.before in
+    let st = k.before.before in
+    refused_write (check_of st.args.raw) c.refusal-of.result st.args.out.now (sym k.check.ensures ∙ c.refusal-of.ensures)
 
-returns-2 : tie.Need-returns-2
-returns-2 c =
-    let g = c .before .before in
-    let k = g .before .before in
-    let st = k .before .before in
-    no-room (checkOf (st .args .raw)) (g .checked .given .0 .0) (now (st .args .out)) (sym (k .check .ensures) ∙ g .checked .given .1) (c .if1 .taken)
+returns_2 : tie.Need-returns-2
+returns_2 c =
+    let g = c.before.before in
+    let k = g.before.before in
+    let st = k.before.before in
+    no_room_lem (check_of st.args.raw) g.checked.given.0.0 st.args.out.now (sym k.check.ensures ∙ g.checked.given.1) c.if1.true
 
-fields-of-requires : tie.Need-fields-of-requires
-fields-of-requires c κs = search needs
+fields_of_requires : tie.Need-fields-of-requires
+fields_of_requires c κs = search rules
 
-sig-word-requires : tie.Need-sig-word-requires
-sig-word-requires c κs =
-    let g = c .before .before .before in
-    let k = g .before .before in
-    subst SigFits (sym (c .fields-of .ensures)) (sig-fits (g .checked .given .0 .0) (right (k .before .before .args .raw) (g .checked .given .0 .0) (sym (k .check .ensures) ∙ g .checked .given .1)))
+sig_word_requires : tie.Need-sig-word-requires
+sig_word_requires c κs =
+    let g = c.before.before.before in
+    let k = g.before.before in
+    subst SigFits (sym c.fields-of.ensures) (sig_fits g.checked.given.0.0 (right k.before.before.args.raw g.checked.given.0.0 (sym k.check.ensures ∙ g.checked.given.1)))
 
-put-six-requires : tie.Need-put-six-requires
-put-six-requires c κs = search needs
+put_six_requires : tie.Need-put-six-requires
+put_six_requires c κs = search rules
 
-same-length : tie.Need-same-length
-same-length c = search needs
+same_length : tie.Need-same-length
+same_length c = search rules
 
-returns-3 : tie.Need-returns-3
-returns-3 c =
-    let ps = c .before .before in
-    let w = ps .before .before in
-    let e = w .before .before in
-    let g = e .before .before in
-    let k = g .before .before in
-    let st = k .before .before in
-    let q = sym (k .check .ensures) ∙ g .checked .given .1 in
-    wrote (checkOf (st .args .raw)) (g .checked .given .0 .0) (w .sig-word .result) (now (st .args .out)) _ q (e .if1 .left)
-    (sig-fits (g .checked .given .0 .0) (right (st .args .raw) (g .checked .given .0 .0) q))
-    (w .sig-word .ensures .0 ∙ ap sigWord (w .before .fields-of .ensures)) (ps .put-six .ensures)
+returns_3 : tie.Need-returns-3
+returns_3 c =
+    let ps = c.before.before in
+    let w = ps.before.before in
+    let e = w.before.before in
+    let g = e.before.before in
+    let k = g.before.before in
+    let st = k.before.before in
+    let q = sym k.check.ensures ∙ g.checked.given.1 in
+    wrote (check_of st.args.raw) g.checked.given.0.0 w.sig-word.result st.args.out.now _ q e.if1.false
+    (sig_fits g.checked.given.0.0 (right st.args.raw g.checked.given.0.0 q))
+    (w.sig-word.ensures.0 ∙ ap sig_word w.before.fields-of.ensures) ps.put_six.ensures
 
-pub write-spec : {M : Type 1} → statement M
-write-spec =
+pub write_spec : {M : Type 1} → statement M
+write_spec =
     tie.close
     (tie.spec
-    check-requires
-    enum-known-checked
-    enum-told
-    refusal-of-requires
+    check_requires
+    enum_known_checked
+    enum_told
+    refusal_of_requires
     returns
-    returns-2
-    fields-of-requires
-    sig-word-requires
-    put-six-requires
-    same-length
-    returns-3)
+    returns_2
+    fields_of_requires
+    sig_word_requires
+    put_six_requires
+    same_length
+    returns_3)

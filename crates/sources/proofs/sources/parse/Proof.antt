@@ -1,80 +1,80 @@
 -- `parse` makes one stream bit a coded bit a turn.
-use mathlib.Core.Path.{_∙_, ap}
-use Prim.Native.Nat.{ℕ, _-_, _≤_}
+use mathlib.Core.Path.{◌∙◌, ap}
+use Prim.Native.Nat.{ℕ, ◌-◌, ◌≤◌}
 use native.Mathlib.Omega.{arith}
-use lib.ListN.{getD}
-use borrow.Author.Needs.{needs}
-use Rattle·laws.specs.Filled.{Filled}
-use Rattle·laws.proofs.Filling.{fill-none, fill-more, fill-end}
-use Rattle·sources·specs.specs.Sources.{codedSlot}
-use Rattle·sources·proofs.proofs.sources.parse.Statement.{statement}
-use Rattle·sources·proofs.proofs.sources.parse.Tie as tie
+use lib.ListN.{get_or}
+use borrow.Author.Rules.{rules}
+use Rattle.laws.specs.Filled.{Filled}
+use Rattle.laws.proofs.Filling.{fill_none, fill_more, fill_end}
+use Rattle.sources.specs.Sources.{coded_slot}
+use Rattle.sources.proofs.sources.parse.Statement.{statement}
+use Rattle.sources.proofs.sources.parse.Tie as tie
 
-abbrev Inv-loop : tie.InvT-loop
-Inv-loop table₀ s streams encoders count r₀ table r = (r ≤ count) × Filled 0 0 (λ k. codedSlot s streams encoders 0 (getD table₀ k 0)) r table₀ table
+abbrev invariant-loop : tie.invariant-loop
+invariant-loop table₀ s streams encoders count r₀ table r = (r ≤ count) × Filled 0 0 (λ k. coded_slot s streams encoders 0 (get_or table₀ k 0)) r table₀ table
 
-abbrev μ-loop : tie.MeasureT-loop
-μ-loop table₀ s streams encoders count r₀ table r = count - r
+abbrev decreases_loop : tie.decreases-loop
+decreases_loop table₀ s streams encoders count r₀ table r = count - r
 
-loop-holds : tie.Need-loop-holds Inv-loop μ-loop
-loop-holds c = (search needs, fill-none _ _ _ _)
+loop_holds : tie.Need-loop-init invariant-loop decreases_loop
+loop_holds c = (search rules, fill_none _ _ _ _)
 
-mul-parsed : tie.Need-mul-parsed Inv-loop μ-loop
-mul-parsed c = search needs
+mul_parsed : tie.Need-overflow-mul-parsed invariant-loop decreases_loop
+mul_parsed c = search rules
 
-slice-read-parsed : tie.Need-slice-read-parsed Inv-loop μ-loop
-slice-read-parsed c = search needs
+slice_read_parsed : tie.Need-slice-read-parsed invariant-loop decreases_loop
+slice_read_parsed c = search rules
 
-parsed-requires : tie.Need-parsed-requires Inv-loop μ-loop
-parsed-requires c κs = let a = c .before .before .before .before in
-    let l = c .before .before .loop in
+parsed_requires : tie.Need-parsed-requires invariant-loop decreases_loop
+parsed_requires c κs = let a = c.before.before.before.before in
+    let l = c.before.before.loop in
     record {
-      axis = a .pre .axis;
-      few-streams = a .pre .few-streams;
-      one-or-two = a .pre .one-or-two;
-      inside = rw (l .inv .1 .after (l .r) (omega arith)) (a .pre .inside (l .r) (c .before .loop-test .taken));
+      axis = a.requires.axis;
+      few_streams = a.requires.few_streams;
+      one_or_two = a.requires.one_or_two;
+      inside = rw (l.invariant.1.after l.r (omega arith)) (a.requires.inside l.r c.before.loop-test.true);
     }
 
-mul-table : tie.Need-mul-table Inv-loop μ-loop
-mul-table c = search needs
+mul_table : tie.Need-overflow-mul-table invariant-loop decreases_loop
+mul_table c = search rules
 
-slice-write-table : tie.Need-slice-write-table Inv-loop μ-loop
-slice-write-table c = search needs
+slice_write_table : tie.Need-slice-write-table invariant-loop decreases_loop
+slice_write_table c = search rules
 
-add-r : tie.Need-add-r Inv-loop μ-loop
-add-r c = search needs
+add_r : tie.Need-overflow-add-r invariant-loop decreases_loop
+add_r c = search rules
 
-loop-less : tie.Need-loop-less Inv-loop μ-loop
-loop-less c = search needs
+loop_less : tie.Need-loop-smaller invariant-loop decreases_loop
+loop_less c = search rules
 
-loop-again : tie.Need-loop-again Inv-loop μ-loop
-loop-again c = let l = c .before .before .before .loop in
-    let a = c .before .before .before .before .before .args in (
-      search needs,
-      fill-more _ _ _ _ _ _ _ _ (omega arith) (omega arith)
-          (c .parsed .ensures ∙ ap (λ (k : ℕ). codedSlot (a .s) (a .streams) (a .encoders) 0 k) (l .inv .1 .after (l .r) (omega arith))) (l .inv .1),
+loop_again : tie.Need-loop-preserved invariant-loop decreases_loop
+loop_again c = let l = c.before.before.before.loop in
+    let a = c.before.before.before.before.before.args in (
+      search rules,
+      fill_more _ _ _ _ _ _ _ _ (omega arith) (omega arith)
+          (c.parsed.ensures ∙ ap (λ (k : ℕ). coded_slot a.s a.streams a.encoders 0 k) (l.invariant.1.after l.r (omega arith))) l.invariant.1,
     )
 
-same-length : tie.Need-same-length Inv-loop μ-loop
-same-length c = search needs
+same_length : tie.Need-same-length invariant-loop decreases_loop
+same_length c = search rules
 
-returns : tie.Need-returns Inv-loop μ-loop
-returns c = fill-end _ _ _ (omega arith) (c .before .loop .inv .1)
+returns : tie.Need-returns invariant-loop decreases_loop
+returns c = fill_end _ _ _ (omega arith) c.before.loop.invariant.1
 
-pub parse-spec : {M : Type 1} → statement M
-parse-spec =
+pub parse_spec : {M : Type 1} → statement M
+parse_spec =
     tie.close
     (tie.spec
-    Inv-loop
-    μ-loop
-    loop-holds
-    mul-parsed
-    slice-read-parsed
-    parsed-requires
-    mul-table
-    slice-write-table
-    add-r
-    loop-less
-    loop-again
-    same-length
+    invariant-loop
+    decreases_loop
+    loop_holds
+    mul_parsed
+    slice_read_parsed
+    parsed_requires
+    mul_table
+    slice_write_table
+    add_r
+    loop_less
+    loop_again
+    same_length
     returns)

@@ -1,85 +1,85 @@
 -- `source_40` goes by the bits of a carrier, so that each divisor is a numeral.
 use native.Mathlib.Omega.{arith}
-use borrow.Author.Needs.{needs}
-use Rattle·chain.proofs.Counts.{bits-other}
-use Rattle·sources·proofs.proofs.SourceLaws.{source-40-1, source-40-2, source-40-4, source-40-6, block-most}
-use Rattle·sources·proofs.proofs.sources.source_40.Statement.{statement}
-use Rattle·sources·proofs.proofs.sources.source_40.Tie as tie
+use borrow.Author.Rules.{rules}
+use Rattle.chain.proofs.Counts.{bits_other}
+use Rattle.sources.proofs.SourceLaws.{source_40_1, source_40_2, source_40_4, source_40_6, block_most}
+use Rattle.sources.proofs.sources.source_40.Statement.{statement}
+use Rattle.sources.proofs.sources.source_40.Tie as tie
 
 returns : tie.Need-returns
-returns c = source-40-1 _ _ (c .if1 .taken) (c .before .pre .inside)
+returns c = source_40_1 _ _ c.if1.true c.before.requires.inside
 
-mul-result : tie.Need-mul-result
-mul-result c = search needs
+mul_result : tie.Need-overflow-mul-result
+mul_result c = search rules
 
-add-result : tie.Need-add-result
-add-result c = search needs
+add_result : tie.Need-overflow-add-result
+add_result c = search rules
 
-mul-result-2 : tie.Need-mul-result-2
-mul-result-2 c = search needs
+mul_result_2 : tie.Need-overflow-mul-result-2
+mul_result_2 c = search rules
 
-add-result-2 : tie.Need-add-result-2
-add-result-2 c = search needs
+add_result_2 : tie.Need-overflow-add-result-2
+add_result_2 c = search rules
 
-returns-2 : tie.Need-returns-2
-returns-2 c = source-40-2 _ _ (c .if2 .taken) (c .before .before .pre .inside)
+returns_2 : tie.Need-returns-2
+returns_2 c = source_40_2 _ _ c.if2.true c.before.before.requires.inside
 
-mul-result-3 : tie.Need-mul-result-3
-mul-result-3 c = search needs
+mul_result_3 : tie.Need-overflow-mul-result-3
+mul_result_3 c = search rules
 
-add-result-3 : tie.Need-add-result-3
-add-result-3 c = let a = c .before .before .before in omega (arith, block-most 40 (a .args .bits) tt (a .pre .known-bits))
+add_result_3 : tie.Need-overflow-add-result-3
+add_result_3 c = let a = c.before.before.before in omega (arith, block_most 40 a.args.bits tt a.requires.known_bits)
 
-add-result-4 : tie.Need-add-result-4
-add-result-4 c = search needs
+add_result_4 : tie.Need-overflow-add-result-4
+add_result_4 c = search rules
 
-mul-result-4 : tie.Need-mul-result-4
-mul-result-4 c = search needs
+mul_result_4 : tie.Need-overflow-mul-result-4
+mul_result_4 c = search rules
 
-add-result-5 : tie.Need-add-result-5
-add-result-5 c = search needs
+add_result_5 : tie.Need-overflow-add-result-5
+add_result_5 c = search rules
 
-returns-3 : tie.Need-returns-3
-returns-3 c = source-40-4 _ _ (c .if3 .taken) (c .before .before .before .pre .inside)
+returns_3 : tie.Need-returns-3
+returns_3 c = source_40_4 _ _ c.if3.true c.before.before.before.requires.inside
 
-mul-result-5 : tie.Need-mul-result-5
-mul-result-5 c = search needs
+mul_result_5 : tie.Need-overflow-mul-result-5
+mul_result_5 c = search rules
 
-add-result-6 : tie.Need-add-result-6
-add-result-6 c = let a = c .before .before .before in omega (arith, block-most 40 (a .args .bits) tt (a .pre .known-bits))
+add_result_6 : tie.Need-overflow-add-result-6
+add_result_6 c = let a = c.before.before.before in omega (arith, block_most 40 a.args.bits tt a.requires.known_bits)
 
-add-result-7 : tie.Need-add-result-7
-add-result-7 c = search needs
+add_result_7 : tie.Need-overflow-add-result-7
+add_result_7 c = search rules
 
-mul-result-6 : tie.Need-mul-result-6
-mul-result-6 c = search needs
+mul_result_6 : tie.Need-overflow-mul-result-6
+mul_result_6 c = search rules
 
-add-result-8 : tie.Need-add-result-8
-add-result-8 c = search needs
+add_result_8 : tie.Need-overflow-add-result-8
+add_result_8 c = search rules
 
-returns-4 : tie.Need-returns-4
-returns-4 c = let a = c .before .before .before in
-    source-40-6 _ _ (bits-other (a .args .bits) (a .pre .known-bits) (c .before .before .if1 .left) (c .before .if2 .left) (c .if3 .left)) (a .pre .inside)
+returns_4 : tie.Need-returns-4
+returns_4 c = let a = c.before.before.before in
+    source_40_6 _ _ (bits_other a.args.bits a.requires.known_bits c.before.before.if1.false c.before.if2.false c.if3.false) a.requires.inside
 
-pub source-40-spec : {M : Type 1} → statement M
-source-40-spec =
+pub source_40_spec : {M : Type 1} → statement M
+source_40_spec =
     tie.close
     (tie.spec
-    mul-result
-    add-result
+    mul_result
+    add_result
     returns
-    mul-result-2
-    add-result-2
-    returns-2
-    mul-result-3
-    add-result-3
-    add-result-4
-    mul-result-4
-    add-result-5
-    returns-3
-    mul-result-5
-    add-result-6
-    add-result-7
-    mul-result-6
-    add-result-8
-    returns-4)
+    mul_result_2
+    add_result_2
+    returns_2
+    mul_result_3
+    add_result_3
+    add_result_4
+    mul_result_4
+    add_result_5
+    returns_3
+    mul_result_5
+    add_result_6
+    add_result_7
+    mul_result_6
+    add_result_8
+    returns_4)

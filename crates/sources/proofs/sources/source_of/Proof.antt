@@ -1,25 +1,25 @@
 -- `source_of` goes by the width.
-use Rattle·chain.proofs.Counts.{width-other}
-use Rattle·sources·proofs.proofs.sources.source_of.Statement.{statement}
-use Rattle·sources·proofs.proofs.sources.source_of.Tie as tie
+use Rattle.chain.proofs.Counts.{width_other}
+use Rattle.sources.proofs.sources.source_of.Statement.{statement}
+use Rattle.sources.proofs.sources.source_of.Tie as tie
 
 returns : tie.Need-returns
-returns c = rw (c .before .if1 .taken) (c .source-40 .ensures)
+returns c = rw c.before.if1.true c.source-40.ensures
 
-source-40-requires : tie.Need-source-40-requires
-source-40-requires c κs = record { known-width = tt; known-bits = c .before .pre .known-bits; inside = rw (c .if1 .taken) at (c .before .pre .inside) }
+source_40_requires : tie.Need-source-40-requires
+source_40_requires c κs = record { known_width = tt; known_bits = c.before.requires.known_bits; inside = rw c.if1.true at c.before.requires.inside }
 
-source-20-requires : tie.Need-source-20-requires
-source-20-requires c κs =
-    let a = c .before in
+source_20_requires : tie.Need-source-20-requires
+source_20_requires c κs =
+    let a = c.before in
     record {
-      known-width = tt;
-      known-bits = a .pre .known-bits;
-      inside = rw (width-other _ (a .pre .known-width) (c .if1 .left)) at (a .pre .inside);
+      known_width = tt;
+      known_bits = a.requires.known_bits;
+      inside = rw (width_other _ a.requires.known_width c.if1.false) at a.requires.inside;
     }
 
-returns-2 : tie.Need-returns-2
-returns-2 c = rw (width-other _ (c .before .before .pre .known-width) (c .before .if1 .left)) (c .source-20 .ensures)
+returns_2 : tie.Need-returns-2
+returns_2 c = rw (width_other _ c.before.before.requires.known_width c.before.if1.false) c.source-20.ensures
 
-pub source-of-spec : {M : Type 1} → statement M
-source-of-spec = tie.close (tie.spec source-40-requires returns source-20-requires returns-2)
+pub source_of_spec : {M : Type 1} → statement M
+source_of_spec = tie.close (tie.spec source_40_requires returns source_20_requires returns_2)

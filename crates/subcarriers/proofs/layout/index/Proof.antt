@@ -1,45 +1,45 @@
 -- `index` is not below 0, so that the cast keeps it.
-use mathlib.Core.Path.{_≡_, sym, ap, _∙_, subst}
-use Prim.Native.Nat.{_<_}
+use mathlib.Core.Path.{◌≡◌, sym, ap, ◌∙◌, subst}
+use Prim.Native.Nat.{◌<◌}
 use native.Mathlib.Omega.{arith}
 use lib.Dec.{T}
-use lib.IntN.{ℤ, pos, natAbs, _+ℤ_}
-use lib.Signed.{nonNeg}
+use lib.IntN.{ℤ, pos, nat_abs, ◌+ℤ◌}
+use lib.Signed.{non_neg}
 use mir.Syntax.{w32, w64}
-use mir.Val.{Fits, SFits, toZ, ofZ}
-use mir.Facts.{toZ-ofZ}
-use Rattle·subcarriers·specs.specs.Subcarriers.{subcarrierFrom, Inside}
-use Rattle·subcarriers·proofs.proofs.SubcarrierLaws.{indexOf, index-small, index-back, index-sum}
-use Rattle·subcarriers·proofs.proofs.layout.index.Statement.{statement}
-use Rattle·subcarriers·proofs.proofs.layout.index.Tie as tie
+use mir.Val.{Fits, SFits, to_z, of_z}
+use mir.Facts.{to_z-of_z}
+use Rattle.subcarriers.specs.Subcarriers.{subcarrier_from, Inside}
+use Rattle.subcarriers.proofs.SubcarrierLaws.{index_of, index_small, index_back, index_sum}
+use Rattle.subcarriers.proofs.layout.index.Statement.{statement}
+use Rattle.subcarriers.proofs.layout.index.Tie as tie
 
 -- the sum is the index, and small
 module _ (z : ℤ) (fits : SFits w32 z) (inside : Inside 40 z) where
-  sum-is : toZ w32 (ofZ w32 z) +ℤ pos 64 ≡ pos (indexOf z)
-  sum-is = ap (λ (y : ℤ). y +ℤ pos 64) (toZ-ofZ fits) ∙ index-sum z inside
+  sum_is : to_z w32 (of_z w32 z) +ℤ pos 64 ≡ pos (index_of z)
+  sum_is = ap (λ (y : ℤ). y +ℤ pos 64) (to_z-of_z fits) ∙ index_sum z inside
 
-  sum-fits : SFits w32 (toZ w32 (ofZ w32 z) +ℤ pos 64)
-  sum-fits = subst (SFits w32) (sym sum-is) (record { sfits = omega (arith, index-small z inside) })
+  sum_fits : SFits w32 (to_z w32 (of_z w32 z) +ℤ pos 64)
+  sum_fits = subst (SFits w32) (sym sum_is) (record { sfits = omega (arith, index_small z inside) })
 
-  index-is : toZ w32 (ofZ w32 (toZ w32 (ofZ w32 z) +ℤ pos 64)) ≡ pos (indexOf z)
-  index-is = toZ-ofZ sum-fits ∙ sum-is
+  index_is : to_z w32 (of_z w32 (to_z w32 (of_z w32 z) +ℤ pos 64)) ≡ pos (index_of z)
+  index_is = to_z-of_z sum_fits ∙ sum_is
 
-  index-fits : Fits w64 (indexOf z)
-  index-fits = record { fits = omega (arith, index-small z inside) }
+  index_fits : Fits w64 (index_of z)
+  index_fits = record { fits = omega (arith, index_small z inside) }
 
 returns : tie.Need-returns
 returns c =
-    let z : ℤ = c .args .subcarrier in
-    subst (λ (y : ℤ). (subcarrierFrom (natAbs y) ≡ z) × (natAbs y < 128)) (sym (index-is z (c .fits .subcarrier) (c .pre)))
-    (index-back z (c .pre), index-small z (c .pre))
+    let z : ℤ = c.args.subcarrier in
+    subst (λ (y : ℤ). (subcarrier_from (nat_abs y) ≡ z) × (nat_abs y < 128)) (sym (index_is z c.ranges.subcarrier c.requires))
+    (index_back z c.requires, index_small z c.requires)
 
-add-result : tie.Need-add-result
-add-result c = sum-fits (c .args .subcarrier) (c .fits .subcarrier) (c .pre)
+add_result : tie.Need-overflow-add-result
+add_result c = sum_fits c.args.subcarrier c.ranges.subcarrier c.requires
 
-cast-result : tie.Need-cast-result
-cast-result c =
-    let z : ℤ = c .args .subcarrier in
-    subst (λ (y : ℤ). T (nonNeg y) × Fits w64 (natAbs y)) (sym (index-is z (c .fits .subcarrier) (c .pre))) (tt, index-fits z (c .fits .subcarrier) (c .pre))
+cast_result : tie.Need-overflow-cast-result
+cast_result c =
+    let z : ℤ = c.args.subcarrier in
+    subst (λ (y : ℤ). T (non_neg y) × Fits w64 (nat_abs y)) (sym (index_is z c.ranges.subcarrier c.requires)) (tt, index_fits z c.ranges.subcarrier c.requires)
 
-pub index-spec : {M : Type 1} → statement M
-index-spec = tie.close (tie.spec add-result cast-result returns)
+pub index_spec : {M : Type 1} → statement M
+index_spec = tie.close (tie.spec add_result cast_result returns)

@@ -1,12 +1,12 @@
 -- `runs_of` goes by the width.
-use Rattle·subcarriers·proofs.proofs.layout.runs_of.Statement.{statement}
-use Rattle·subcarriers·proofs.proofs.layout.runs_of.Tie as tie
+use Rattle.subcarriers.proofs.layout.runs_of.Statement.{statement}
+use Rattle.subcarriers.proofs.layout.runs_of.Tie as tie
 
 returns : tie.Need-returns
-returns c = simp (c .if1 .taken)
+returns c = simp c.if1.true
 
-returns-2 : tie.Need-returns-2
-returns-2 c = simp (c .if1 .left)
+returns_2 : tie.Need-returns-2
+returns_2 c = simp c.if1.false
 
-pub runs-of-spec : {M : Type 1} → statement M
-runs-of-spec = tie.close (tie.spec returns returns-2)
+pub runs_of_spec : {M : Type 1} → statement M
+runs_of_spec = tie.close (tie.spec returns returns_2)

@@ -1,35 +1,35 @@
 -- `use_at`: a carrier of the run that holds the place, or its pilot.
 use native.Mathlib.Omega.{arith}
-use borrow.Author.Needs.{needs}
-use Rattle·subcarriers·proofs.proofs.RunLaws.{carrier-few, carrier-use, pilot-use-at}
-use Rattle·subcarriers·proofs.proofs.layout.use_at.Statement.{statement}
-use Rattle·subcarriers·proofs.proofs.layout.use_at.Tie as tie
+use borrow.Author.Rules.{rules}
+use Rattle.subcarriers.proofs.RunLaws.{carrier_few, carrier_use, pilot_use_at}
+use Rattle.subcarriers.proofs.layout.use_at.Statement.{statement}
+use Rattle.subcarriers.proofs.layout.use_at.Tie as tie
 
 returns : tie.Need-returns
 returns c =
-    let m = c .before .before .before .before in
-    let a = m .before .args in
-    let e = m .run-at .ensures in
-    carrier-use (a .width) (a .f) (m .run-at .result) (e .0) (e .1 .0) (c .before .if1 .taken)
+    let m = c.before.before.before.before in
+    let a = m.before.args in
+    let e = m.run_at.ensures in
+    carrier_use a.width a.f m.run_at.result e.0 e.1.0 c.before.if1.true
 
-returns-2 : tie.Need-returns-2
-returns-2 c =
-    let m = c .before .before .before in
-    let a = m .before .args in
-    let e = m .run-at .ensures in
-    pilot-use-at (a .width) (a .f) (m .run-at .result) (e .0) (e .1 .0) (c .if1 .left) (e .1 .1)
+returns_2 : tie.Need-returns-2
+returns_2 c =
+    let m = c.before.before.before in
+    let a = m.before.args in
+    let e = m.run_at.ensures in
+    pilot_use_at a.width a.f m.run_at.result e.0 e.1.0 c.if1.false e.1.1
 
-run-at-requires : tie.Need-run-at-requires
-run-at-requires c κs = search needs
+run_at_requires : tie.Need-run-at-requires
+run_at_requires c κs = search rules
 
-sub-k : tie.Need-sub-k
-sub-k c = search needs
+sub_k : tie.Need-overflow-sub-k
+sub_k c = search rules
 
-add-t6 : tie.Need-add-t6
-add-t6 c =
-    let m = c .before .before .before .before in
-    let a = m .before in
-    record { fits = omega (arith, carrier-few (a .args .width) (a .pre .0) (m .run-at .result) (m .run-at .ensures .0) _ (c .before .if1 .taken)) }
+add_t6 : tie.Need-overflow-add-t6
+add_t6 c =
+    let m = c.before.before.before.before in
+    let a = m.before in
+    record { fits = omega (arith, carrier_few a.args.width a.requires.0 m.run_at.result m.run_at.ensures.0 _ c.before.if1.true) }
 
-pub use-at-spec : {M : Type 1} → statement M
-use-at-spec = tie.close (tie.spec run-at-requires sub-k add-t6 returns returns-2)
+pub use_at_spec : {M : Type 1} → statement M
+use_at_spec = tie.close (tie.spec run_at_requires sub_k add_t6 returns returns_2)

@@ -1,43 +1,43 @@
 -- `use_of` goes by whether the subcarrier has a place.
-use mathlib.Core.Path.{_≡_, sym, ap, _∙_}
-use mir.Facts.{toZ-ofZ}
-use borrow.Author.Needs.{needs}
-use Rattle·subcarriers·specs.specs.Subcarriers.{usedSubcarriers, placeIn}
-use Rattle·subcarriers·proofs.proofs.SubcarrierLaws.{inside-wide, use-at-place, unused-silent}
-use Rattle·subcarriers·proofs.proofs.layout.use_of.Statement.{statement}
-use Rattle·subcarriers·proofs.proofs.layout.use_of.Tie as tie
+use mathlib.Core.Path.{◌≡◌, sym, ap, ◌∙◌}
+use mir.Facts.{to_z-of_z}
+use borrow.Author.Rules.{rules}
+use Rattle.subcarriers.specs.Subcarriers.{used_subcarriers, place_in}
+use Rattle.subcarriers.proofs.SubcarrierLaws.{inside_wide, use_at_place, unused_silent}
+use Rattle.subcarriers.proofs.layout.use_of.Statement.{statement}
+use Rattle.subcarriers.proofs.layout.use_of.Tie as tie
 
 -- the place that was found
-found : (c : tie.After-place-of) → c .place-of .result ≡ placeIn (usedSubcarriers (c .before .before .args .width)) (c .before .before .args .subcarrier)
+found : (c : tie.After-place-of) → c.place_of.result ≡ place_in (used_subcarriers c.before.before.args.width) c.before.before.args.subcarrier
 found c =
-    let a = c .before .before in
-    c .place-of .ensures ∙ ap (placeIn (usedSubcarriers (a .args .width))) (c .before .index .ensures .0 ∙ toZ-ofZ (a .fits .subcarrier))
+    let a = c.before.before in
+    c.place_of.ensures ∙ ap (place_in (used_subcarriers a.args.width)) (c.before.index.ensures.0 ∙ to_z-of_z a.ranges.subcarrier)
 
 returns : tie.Need-returns
 returns c =
-    let n = c .before .before in
-    let a = n .before .before .before in
-    c .use-at .ensures
-    ∙ use-at-place (a .args .width) (a .pre .0) (a .args .subcarrier) (a .pre .1) (n .before .place-of .result) (found (n .before))
-    (rw (n .places-of .ensures) at (c .before .if1 .taken))
+    let n = c.before.before in
+    let a = n.before.before.before in
+    c.use-at.ensures
+    ∙ use_at_place a.args.width a.requires.0 a.args.subcarrier a.requires.1 n.before.place_of.result (found n.before)
+    (rw n.places_of.ensures at c.before.if1.true)
 
-returns-2 : tie.Need-returns-2
-returns-2 c =
-    let n = c .before in
-    let a = n .before .before .before in
-    sym (unused-silent (a .args .width) (a .pre .0) (a .args .subcarrier) (a .pre .1) (rw (n .places-of .ensures, found (n .before)) at (c .if1 .left)))
+returns_2 : tie.Need-returns-2
+returns_2 c =
+    let n = c.before in
+    let a = n.before.before.before in
+    sym (unused_silent a.args.width a.requires.0 a.args.subcarrier a.requires.1 (rw (n.places_of.ensures, found n.before) at c.if1.false))
 
-index-requires : tie.Need-index-requires
-index-requires c κs = rw (toZ-ofZ (c .fits .subcarrier)) (inside-wide (c .args .width) (c .pre .0) (c .args .subcarrier) (c .pre .1))
+index_requires : tie.Need-index-requires
+index_requires c κs = rw (to_z-of_z c.ranges.subcarrier) (inside_wide c.args.width c.requires.0 c.args.subcarrier c.requires.1)
 
-place-of-requires : tie.Need-place-of-requires
-place-of-requires c κs = search needs
+place_of_requires : tie.Need-place-of-requires
+place_of_requires c κs = search rules
 
-places-of-requires : tie.Need-places-of-requires
-places-of-requires c κs = search needs
+places_of_requires : tie.Need-places-of-requires
+places_of_requires c κs = search rules
 
-use-at-requires : tie.Need-use-at-requires
-use-at-requires c κs = search needs
+use_at_requires : tie.Need-use-at-requires
+use_at_requires c κs = search rules
 
-pub use-of-spec : {M : Type 1} → statement M
-use-of-spec = tie.close (tie.spec index-requires place-of-requires places-of-requires use-at-requires returns returns-2)
+pub use_of_spec : {M : Type 1} → statement M
+use_of_spec = tie.close (tie.spec index_requires place_of_requires places_of_requires use_at_requires returns returns_2)

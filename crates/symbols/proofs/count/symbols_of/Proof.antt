@@ -1,63 +1,63 @@
 -- `symbols_of` meets its contract, by what the plan's facts say of the sizes. Assumes nothing.
-use mathlib.Core.Path.{_≡_, _∙_, sym, ap, ap₂, subst}
+use mathlib.Core.Path.{◌≡◌, ◌∙◌, sym, ap, ap₂, subst}
 use native.Mathlib.Omega.{arith}
-use Prim.Native.Nat.{ℕ, _+_, _*_}
-use Rattle·chain.specs.Plan.{Fits}
-use Rattle·chain.specs.declared.plan.Plan.{Plan}
-use Rattle·settings.specs.Settings.{encodersOf}
-use Rattle·symbols·specs.specs.Symbols.{ceil, symbolsOf}
-use Rattle·settings.proofs.SettingsLaws.{plan-fits, encoders-few, planned-encoders}
-use borrow.Author.Needs.{needs}
-use Rattle·symbols·proofs.proofs.count.symbols_of.Statement.{statement}
-use Rattle·symbols·proofs.proofs.count.symbols_of.Tie as tie
+use Prim.Native.Nat.{ℕ, ◌+◌, ◌*◌}
+use Rattle.chain.specs.Plan.{Fits}
+use Rattle.chain.specs.declared.plan.Plan.{Plan}
+use Rattle.settings.specs.Settings.{encoders_of}
+use Rattle.symbols.specs.Symbols.{ceil, symbols_of}
+use Rattle.settings.proofs.SettingsLaws.{plan_fits, encoders_few, planned_encoders}
+use borrow.Author.Rules.{rules}
+use Rattle.symbols.proofs.count.symbols_of.Statement.{statement}
+use Rattle.symbols.proofs.count.symbols_of.Tie as tie
 
 -- the plan that the call gave
-encoders-are : (c : tie.After-plan-of) → c .plan-of .result .encoders ≡ encodersOf (c .before .args .s .mcs)
-encoders-are c = ap (λ (p : Plan). p .encoders) (c .plan-of .ensures) ∙ planned-encoders (c .before .args .s)
+encoders_are : (c : tie.After-plan-of) → c.plan-of.result.encoders ≡ encoders_of c.before.args.s.mcs
+encoders_are c = ap (λ (p : Plan). p.encoders) c.plan-of.ensures ∙ planned_encoders c.before.args.s
 
-plan-right : (c : tie.After-plan-of) → Fits (c .plan-of .result)
-plan-right c = subst Fits (sym (c .plan-of .ensures)) (plan-fits (c .before .args .s) (c .before .pre))
+plan_right : (c : tie.After-plan-of) → Fits c.plan-of.result
+plan_right c = subst Fits (sym c.plan-of.ensures) (plan_fits c.before.args.s c.before.requires)
 
-plan-of-requires : tie.Need-plan-of-requires
-plan-of-requires c κs = search needs
+plan_of_requires : tie.Need-plan-of-requires
+plan_of_requires c κs = search rules
 
-mul-bits : tie.Need-mul-bits
-mul-bits c = search needs
+mul_bits : tie.Need-overflow-mul-bits
+mul_bits c = search rules
 
-add-bits : tie.Need-add-bits
-add-bits c = search needs
+add_bits : tie.Need-overflow-add-bits
+add_bits c = search rules
 
-tail-bits-requires : tie.Need-tail-bits-requires
-tail-bits-requires c κs = omega (arith, encoders-are c, encoders-few (c .before .args .s .mcs))
+tail_bits_requires : tie.Need-tail-bits-requires
+tail_bits_requires c κs = omega (arith, encoders_are c, encoders_few c.before.args.s.mcs)
 
-add-bits-2 : tie.Need-add-bits-2
-add-bits-2 c = search needs
+add_bits_2 : tie.Need-overflow-add-bits-2
+add_bits_2 c = search rules
 
-sub-result : tie.Need-sub-result
-sub-result c = omega (arith, plan-right (c .before) .dbps-some)
+sub_result : tie.Need-overflow-sub-result
+sub_result c = omega (arith, (plan_right c.before).dbps_some)
 
-add-result : tie.Need-add-result
-add-result c = omega (arith, plan-right (c .before) .dbps-most, c .tail-bits .ensures .1, c .before .before .pre .length-most)
+add_result : tie.Need-overflow-add-result
+add_result c = omega (arith, (plan_right c.before).dbps_most, c.tail-bits.ensures.1, c.before.before.requires.length_most)
 
-div-result : tie.Need-div-result
-div-result c = omega (arith, plan-right (c .before) .dbps-some)
+div_result : tie.Need-nonzero-div-result
+div_result c = omega (arith, (plan_right c.before).dbps_some)
 
 returns : tie.Need-returns
-unfolding symbolsOf
+unfolding symbols_of
 returns c =
-    ap₂ (λ (t d : ℕ). ceil (16 + 8 * c .before .before .args .s .length + t) d)
-    (c .tail-bits .ensures .0 ∙ ap (λ (e : ℕ). 6 * e) (encoders-are (c .before))) (ap (λ (p : Plan). p .dbps) (c .before .plan-of .ensures))
+    ap₂ (λ (t d : ℕ). ceil (16 + 8 * c.before.before.args.s.length + t) d)
+    (c.tail-bits.ensures.0 ∙ ap (λ (e : ℕ). 6 * e) (encoders_are c.before)) (ap (λ (p : Plan). p.dbps) c.before.plan-of.ensures)
 
-pub symbols-of-spec : {M : Type 1} → statement M
-symbols-of-spec =
+pub symbols_of_spec : {M : Type 1} → statement M
+symbols_of_spec =
     tie.close
     (tie.spec
-    plan-of-requires
-    mul-bits
-    add-bits
-    tail-bits-requires
-    add-bits-2
-    sub-result
-    add-result
-    div-result
+    plan_of_requires
+    mul_bits
+    add_bits
+    tail_bits_requires
+    add_bits_2
+    sub_result
+    add_result
+    div_result
     returns)

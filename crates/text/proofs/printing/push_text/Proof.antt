@@ -1,56 +1,56 @@
 -- `text::printing::push_text` meets its contract: what is left to push gives the row, and there is room for it. Assumes nothing.
-use mathlib.Core.Path.{_≡_, ap}
-use Prim.Native.Nat.{_+_, _-_, _≤_}
+use mathlib.Core.Path.{◌≡◌, ap}
+use Prim.Native.Nat.{◌+◌, ◌-◌, ◌≤◌}
 use native.Mathlib.Omega.{arith}
-use borrow.Author.Needs.{needs}
+use borrow.Author.Rules.{rules}
 use lib.ListN.{length, drop}
-use Rattle·text·specs.specs.declared.printing.Row.{Row}
-use Rattle·text·specs.specs.Printing.{pushedAll}
-use Rattle·text·proofs.proofs.Pushing.{pushed-next, pushed-ends}
-use Rattle·text·proofs.proofs.printing.push_text.Statement.{statement}
-use Rattle·text·proofs.proofs.printing.push_text.Tie as tie
+use Rattle.text.specs.declared.printing.Row.{Row}
+use Rattle.text.specs.Printing.{pushed_all}
+use Rattle.text.proofs.Pushing.{pushed_next, pushed_ends}
+use Rattle.text.proofs.printing.push_text.Statement.{statement}
+use Rattle.text.proofs.printing.push_text.Tie as tie
 
-abbrev Inv-loop : tie.InvT-loop
-Inv-loop text next₀ i₀ next i = (i ≤ length text) × (next .len + (length text - i) ≤ 40) × (pushedAll next (drop i text) ≡ pushedAll next₀ text)
+abbrev invariant-loop : tie.invariant-loop
+invariant-loop text next₀ i₀ next i = (i ≤ length text) × (next.len + (length text - i) ≤ 40) × (pushed_all next (drop i text) ≡ pushed_all next₀ text)
 
-abbrev μ-loop : tie.MeasureT-loop
-μ-loop text next₀ i₀ next i = length text - i
+abbrev decreases_loop : tie.decreases-loop
+decreases_loop text next₀ i₀ next i = length text - i
 
-loop-holds : tie.Need-loop-holds Inv-loop μ-loop
-loop-holds c = search needs
+loop_holds : tie.Need-loop-init invariant-loop decreases_loop
+loop_holds c = search rules
 
-shared-slice-read-push : tie.Need-shared-slice-read-push Inv-loop μ-loop
-shared-slice-read-push c = search needs
+shared_slice_read_push : tie.Need-shared-slice-read-push invariant-loop decreases_loop
+shared_slice_read_push c = search rules
 
-push-requires : tie.Need-push-requires Inv-loop μ-loop
-push-requires c κs = search needs
+push_requires : tie.Need-push-requires invariant-loop decreases_loop
+push_requires c κs = search rules
 
-add-i : tie.Need-add-i Inv-loop μ-loop
-add-i c = search needs
+add_i : tie.Need-overflow-add-i invariant-loop decreases_loop
+add_i c = search rules
 
-loop-less : tie.Need-loop-less Inv-loop μ-loop
-loop-less c = search needs
+loop_less : tie.Need-loop-smaller invariant-loop decreases_loop
+loop_less c = search rules
 
-loop-again : tie.Need-loop-again Inv-loop μ-loop
-loop-again c = (
-  search needs,
-  omega (arith, ap (λ (r : Row). r .len) (c .push .ensures)),
-  rw (c .push .ensures) (pushed-next _ (c .before .before .before .loop .i) (c .before .before .before .loop .next) (c .before .before .loop-test .taken) (c .before .before .before .loop .inv .2)),
+loop_again : tie.Need-loop-preserved invariant-loop decreases_loop
+loop_again c = (
+  search rules,
+  omega (arith, ap (λ (r : Row). r.len) c.push.ensures),
+  rw c.push.ensures (pushed_next _ c.before.before.before.loop.i c.before.before.before.loop.next c.before.before.loop-test.true c.before.before.before.loop.invariant.2),
 )
 
-returns : tie.Need-returns Inv-loop μ-loop
-returns c = pushed-ends _ (c .before .loop .i) (c .before .loop .next) (c .loop-test .left) (c .before .loop .inv .2)
+returns : tie.Need-returns invariant-loop decreases_loop
+returns c = pushed_ends _ c.before.loop.i c.before.loop.next c.loop-test.false c.before.loop.invariant.2
 
-pub push-text-spec : {M : Type 1} → statement M
-push-text-spec =
+pub push_text_spec : {M : Type 1} → statement M
+push_text_spec =
     tie.close
     (tie.spec
-    Inv-loop
-    μ-loop
-    loop-holds
-    shared-slice-read-push
-    push-requires
-    add-i
-    loop-less
-    loop-again
+    invariant-loop
+    decreases_loop
+    loop_holds
+    shared_slice_read_push
+    push_requires
+    add_i
+    loop_less
+    loop_again
     returns)

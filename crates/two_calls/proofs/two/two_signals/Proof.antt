@@ -1,35 +1,34 @@
 -- `two_signals`: demand 3 of the answers and slices that the two calls give.
-use denote.Ref.{now}
-use Rattle·demands.proofs.Demand3.{of-signals}
-use borrow.Author.Needs.{needs}
-use Rattle·two_calls·proofs.proofs.two.two_signals.Statement.{statement}
-use Rattle·two_calls·proofs.proofs.two.two_signals.Tie as tie
+use Rattle.demands.proofs.Demand3.{of_signals}
+use borrow.Author.Rules.{rules}
+use Rattle.two_calls.proofs.two.two_signals.Statement.{statement}
+use Rattle.two_calls.proofs.two.two_signals.Tie as tie
 
 returns : tie.Need-returns
 returns c =
-    let second = c .before .before in
-    let first = second .before .before .before .before in
-    let st = first .before .before .before .before in
-    let one = first .write .ensures in
-    let other = second .write2 .ensures in (
-      (one .0, other .0),
+    let second = c.before.before in
+    let first = second.before.before.before.before in
+    let st = first.before.before.before.before in
+    let one = first.write.ensures in
+    let other = second.write2.ensures in (
+      (one.0, other.0),
       (
-        (one .1, other .1),
-        of-signals (st .args .raw) (st .args .other-raw) (now (st .args .out)) (now (st .args .other-out)) _ _ _ _ (one .0) (other .0) (one .1) (other .1),
+        (one.1, other.1),
+        of_signals st.args.raw st.args.other-raw st.args.out.now st.args.other-out.now _ _ _ _ one.0 other.0 one.1 other.1,
       ),
     )
 
-write-requires : tie.Need-write-requires
-write-requires c κs = search needs
+write_requires : tie.Need-write-requires
+write_requires c κs = search rules
 
-write-requires-2 : tie.Need-write-requires-2
-write-requires-2 c κs = search needs
+write_requires_2 : tie.Need-write-requires-2
+write_requires_2 c κs = search rules
 
-same-length : tie.Need-same-length
-same-length c = search needs
+same_length : tie.Need-same-length
+same_length c = search rules
 
-same-length-2 : tie.Need-same-length-2
-same-length-2 c = search needs
+same_length_2 : tie.Need-same-length-2
+same_length_2 c = search rules
 
-pub two-signals-spec : {M : Type 1} → statement M
-two-signals-spec = tie.close (tie.spec write-requires write-requires-2 same-length same-length-2 returns)
+pub two_signals_spec : {M : Type 1} → statement M
+two_signals_spec = tie.close (tie.spec write_requires write_requires_2 same_length same_length_2 returns)
