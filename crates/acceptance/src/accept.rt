@@ -12,7 +12,7 @@ use settings::settings::{Refusal, Settings, plan_of};
 use symbols::count::symbols_of;
 
 // The first symbol with the seed, a later one, the first point that fails by its stream and subcarrier, or a refusal.
-#[derive(Drop)]
+#[derive(Clone, Copy)]
 pub enum StepAnswer {
     First(u8),
     Next,
@@ -20,7 +20,7 @@ pub enum StepAnswer {
     Refused(Refusal),
 }
 
-#[derive(Drop)]
+#[derive(Clone, Copy)]
 pub struct Stepped {
     pub answer: StepAnswer,
     pub state: Reader,

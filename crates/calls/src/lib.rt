@@ -1,4 +1,6 @@
 // The calls of the sending side as C callers see them: one number for each answer, a refusal as its number negated.
+#![tactic(auto)]
+
 ghost use Rattle.std.specs.Prelude.{◌≡◌, length};
 ghost use Rattle.settings.specs.Settings.{check_of};
 ghost use Rattle.symbols.specs.Symbols.{count_of};

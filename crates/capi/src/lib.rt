@@ -1,4 +1,6 @@
 // The calls over the C convention: numbers and slices in, one i64 out, a refusal as its number negated. Each gathers its settings and calls on.
+#![tactic(auto)]
+
 ghost use Rattle.std.specs.Prelude.{◌≡◌, length as length_of, pos};
 ghost use Rattle.abi.specs.Abi.{abi_number};
 ghost use Rattle.settings.specs.Settings.{check_of};

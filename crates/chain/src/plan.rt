@@ -3,7 +3,7 @@ ghost use Rattle.std.specs.Prelude.{◌≡◌};
 ghost use Rattle.chain.specs.Parser.{axis_bits};
 ghost use Rattle.chain.specs.Plan.{carriers_of, plan_of, Planned};
 
-#[derive(Drop)]
+#[derive(Clone, Copy)]
 pub struct Plan {
     // Channel width in MHz.
     pub width: usize,

@@ -1,4 +1,6 @@
 // What the C calls take and return: settings from numbers, answers as one number, and what a subcarrier carries as floats.
+#![tactic(auto)]
+
 ghost use Rattle.std.specs.Prelude.{◌≡◌, ◌<◌, ◌≤◌, pos, length as length_of};
 ghost use Rattle.sig_words.specs.Words.{SigFits};
 ghost use Rattle.laws.specs.Integers.{minus};

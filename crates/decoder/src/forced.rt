@@ -12,7 +12,7 @@ use deinterleaver::coded::symbol_coded;
 use forcing::steps::decode_encoder;
 
 // The histories after a symbol, and whether any inputs give its coded bits.
-#[derive(Drop)]
+#[derive(Clone, Copy)]
 pub struct Decoded {
     pub histories: [u8; 2],
     pub sound: bool,

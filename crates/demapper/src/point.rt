@@ -8,7 +8,7 @@ use crate::level::{bits_of, level_label, negated_label};
 use modulator::symbol::pilot_point;
 
 // The labels of a point's levels, and whether it is a point of the constellation.
-#[derive(Drop)]
+#[derive(Clone, Copy)]
 pub struct PointLabels {
     pub first: u8,
     pub second: u8,

@@ -11,7 +11,7 @@ use pilots::pilot::{pilot_sign, polarity_bit};
 use subcarriers::layout::{entry_index, places_of};
 
 // Every point is one the rules give, or the first that is not: its stream and its place among the used subcarriers.
-#[derive(Drop)]
+#[derive(Clone, Copy)]
 pub enum Search {
     AllGiven,
     At(usize, usize),

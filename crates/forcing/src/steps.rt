@@ -70,7 +70,7 @@ fn group(
 }
 
 // An encoder's history after a symbol, and how many groups' first bits are not those of the forced inputs.
-#[derive(Drop)]
+#[derive(Clone, Copy)]
 pub struct Forced {
     pub history: u8,
     pub wrong: usize,

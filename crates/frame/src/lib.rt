@@ -1,2 +1,4 @@
 // The points call: the points of any one symbol.
+#![tactic(auto)]
+
 pub mod points;

@@ -13,7 +13,7 @@ use settings::settings::{Checked, RawSettings, Refusal, Settings, check, plan_of
 use subcarriers::layout::places_of;
 use symbols::count::symbols_of;
 
-#[derive(Drop)]
+#[derive(Clone, Copy)]
 pub enum PointsAnswer {
     Written(u64),
     Refused(Refusal),

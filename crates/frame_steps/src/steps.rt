@@ -7,7 +7,7 @@ use reader_state::state::Reader;
 use settings::settings::Refusal;
 
 // The seed; the symbol, stream and subcarrier of the first point that fails; the symbol that 10 or 11 refuses; or the settings' refusal or 8.
-#[derive(Drop)]
+#[derive(Clone, Copy)]
 pub enum FrameAnswer {
     Read(u8),
     BadPoint(u64, u8, i32),

@@ -1,5 +1,7 @@
 // Reads MCS, width and length line by line from standard input and lists symbol counts and HT-SIG bytes.
 // The decisions, the lines and the rows are the library's; this program only reads and writes.
+#![tactic(auto)]
+
 use libc::{STDIN_FILENO, STDOUT_FILENO};
 use lines::lines::{NextLine, next_line, too_long};
 use listing::rows;

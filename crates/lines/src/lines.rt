@@ -11,7 +11,7 @@ pub fn too_long(input: &[u8]) -> bool
 }
 
 // A line stands from `start` up to `end`; the one after it is looked for from `next` on.
-#[derive(Drop)]
+#[derive(Clone, Copy)]
 pub enum NextLine {
     Line {
         start: usize,

@@ -8,7 +8,7 @@ ghost use Rattle.mapper.specs.Levels.{carrier_levels, point_of};
 ghost use Rattle.mapper.specs.Mapped.{LevelTable, PointAsked, negated_level, turned_point, axis_of};
 
 // Two levels: exact whole numbers, zero with a clear sign bit.
-#[derive(Drop)]
+#[derive(Clone, Copy)]
 pub struct Point {
     pub first: f32,
     pub second: f32,

@@ -3,7 +3,7 @@ ghost use Rattle.std.specs.Prelude.{◌≡◌, ◌+◌, ◌-◌, ◌≤◌, leng
 ghost use Rattle.laws.specs.Stretch.{stretch};
 ghost use Rattle.parsing.specs.Parsing.{is_digit, one_to_five, separated_at, decimal_value, parsed_of, FiveDigits};
 
-#[derive(Drop)]
+#[derive(Clone, Copy)]
 pub enum Parsed {
     Numbers(u64, u64, u64),
     Malformed,

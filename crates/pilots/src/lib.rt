@@ -1,2 +1,4 @@
 // The pilots' signs.
+#![tactic(auto)]
+
 pub mod pilot;

@@ -1,5 +1,7 @@
 // The published values of IEEE 802.11 that the coding chain reaches, printed one a line: the scrambler's period from seed 127, and of Annex G's
 // message (100 bytes, seed 93, 16-QAM at rate 3/4) the first 48 encoder inputs and the first 192 coded bits.
+#![tactic(auto)]
+
 ghost use Rattle.std.specs.Prelude.{◌+◌, ◌≤◌, length};
 
 use chain::plan::{MOST_CODED, MOST_LINE};

@@ -17,14 +17,14 @@ use subcarriers::layout::{Use, is_outside, use_of};
 use symbols::count::symbols_of;
 
 // Nothing, a pilot's sign, or a data point before the upper half's turn.
-#[derive(Drop)]
+#[derive(Clone, Copy)]
 pub enum Carried {
     Silent,
     Pilot(f32),
     Data(Point),
 }
 
-#[derive(Drop)]
+#[derive(Clone, Copy)]
 pub enum QueryAnswer {
     Carries(Carried),
     Refused(Refusal),

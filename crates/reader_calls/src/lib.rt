@@ -1,4 +1,6 @@
 // The reader's calls as C callers see them: a state and an answer as one number, a refusal as its number negated or beside the state.
+#![tactic(auto)]
+
 ghost use Rattle.std.specs.Prelude.{◌≡◌, ◌<◌, length, pos};
 ghost use Rattle.reader_state.specs.State.{start_of};
 ghost use Rattle.reader_numbers.specs.Numbers.{start_result, closed_number, step_result, step_result_into, place_result};

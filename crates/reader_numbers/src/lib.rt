@@ -1,4 +1,6 @@
 // The reader's settings, states and answers as the numbers of the C calls.
+#![tactic(auto)]
+
 ghost use Rattle.std.specs.Prelude.{◌≡◌, ◌*◌, ◌<◌, pos, ◌+ℤ◌};
 ghost use Rattle.subcarriers.specs.Subcarriers.{Inside};
 ghost use Rattle.reader.specs.Step.{step_number, step_seed};

@@ -10,7 +10,7 @@ use settings::settings::{Checked, Refusal, check, plan_of};
 use subcarriers::layout::subcarrier_of;
 
 // Every point passes, or the first that does not: its stream and its subcarrier's own number.
-#[derive(Drop)]
+#[derive(Clone, Copy)]
 pub enum PlaceAnswer {
     Passed,
     Found(u8, i32),

@@ -8,7 +8,7 @@ use settings::settings::{Checked, RawSettings, Refusal, Settings, check, plan_of
 use symbols::count::symbols_of;
 
 // Settings without a seed, as wide as any caller has them.
-#[derive(Drop)]
+#[derive(Clone, Copy)]
 pub struct OpenSettings {
     pub width: u64,
     pub mcs: u64,
@@ -21,7 +21,7 @@ pub struct OpenSettings {
 }
 
 // What the reader carries from symbol to symbol. Any number may stand in any field: a step tests them.
-#[derive(Drop)]
+#[derive(Clone, Copy)]
 pub struct Reader {
     pub settings: OpenSettings,
     // The next symbol's number.
@@ -36,13 +36,13 @@ pub struct Reader {
     pub part: u8,
 }
 
-#[derive(Drop)]
+#[derive(Clone, Copy)]
 pub enum StartAnswer {
     Ready,
     Refused(Refusal),
 }
 
-#[derive(Drop)]
+#[derive(Clone, Copy)]
 pub struct Started {
     pub answer: StartAnswer,
     pub state: Reader,

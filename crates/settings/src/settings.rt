@@ -8,7 +8,7 @@ use chain::plan;
 use chain::plan::Plan;
 
 // The refusals of document 01's table, in its order.
-#[derive(Drop)]
+#[derive(Clone, Copy)]
 pub enum Refusal {
     Width,
     Mcs,
@@ -28,7 +28,7 @@ pub enum Refusal {
 
 // The settings as a caller passes them, as wide as any caller has them: nothing is narrowed before it is tested.
 // A further setting that is tested after the format, such as an edition, has its place after `format`.
-#[derive(Drop)]
+#[derive(Clone, Copy)]
 pub struct RawSettings {
     pub width: u64,
     pub mcs: u64,
@@ -42,7 +42,7 @@ pub struct RawSettings {
 }
 
 // Accepted settings.
-#[derive(Drop)]
+#[derive(Clone, Copy)]
 pub struct Settings {
     pub width: u64,
     pub mcs: u64,
@@ -55,7 +55,7 @@ pub struct Settings {
     pub short_guard: bool,
 }
 
-#[derive(Drop)]
+#[derive(Clone, Copy)]
 pub enum Checked {
     Accepted(Settings),
     Refused(Refusal),

@@ -1,2 +1,4 @@
 // The CRC of HT-SIG as numbers.
+#![tactic(auto)]
+
 pub mod crc;

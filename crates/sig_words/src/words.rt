@@ -5,7 +5,7 @@ ghost use Rattle.sig_words.specs.Words.{one_if, SigFits, head_word, sig_word, si
 use sig_crc::crc::{crc, crc_field};
 
 // What the field says of the settings.
-#[derive(Drop)]
+#[derive(Clone, Copy)]
 pub struct SigFields {
     pub width: u64,
     pub mcs: u64,

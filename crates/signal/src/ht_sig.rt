@@ -6,13 +6,13 @@ ghost use Rattle.signal.specs.HtSig.{fields_of, written_of, written_into, read_o
 use settings::settings::{Checked, RawSettings, Refusal, Settings, check, refusal_of};
 use sig_words::words::{SigFields, crc_wrong, fields_in, form_wrong, put_six, sig_word, word_in};
 
-#[derive(Drop)]
+#[derive(Clone, Copy)]
 pub enum Written {
     Done,
     Refused(Refusal),
 }
 
-#[derive(Drop)]
+#[derive(Clone, Copy)]
 pub enum SigRead {
     Fields(SigFields),
     Refused(Refusal),

@@ -6,7 +6,7 @@ ghost use Rattle.subcarriers.specs.Subcarriers.{used_subcarriers, place_in, use_
 ghost use Rattle.subcarriers.specs.Runs.{half_runs, run_of, run_end, RunRight};
 
 // Nothing, the pilot at a place, or the data carrier of a number, both counted from 0 with the subcarriers rising.
-#[derive(Drop)]
+#[derive(Clone, Copy)]
 pub enum Use {
     Silent,
     Pilot(usize),
@@ -14,7 +14,7 @@ pub enum Use {
 }
 
 // A run of data carriers at neighbouring places, and the pilot after it.
-#[derive(Drop)]
+#[derive(Clone, Copy)]
 pub struct Run {
     pub place: usize,
     pub carrier: usize,

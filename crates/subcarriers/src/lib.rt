@@ -1,2 +1,4 @@
 // What the subcarriers of a channel are used for.
+#![tactic(auto)]
+
 pub mod layout;

@@ -5,7 +5,7 @@ ghost use Rattle.symbols.specs.Symbols.{symbols_of, count_of};
 
 use settings::settings::{Checked, RawSettings, Refusal, Settings, check, plan_of, refusal_of};
 
-#[derive(Drop)]
+#[derive(Clone, Copy)]
 pub enum Count {
     Symbols(u64),
     Refused(Refusal),

@@ -1,2 +1,4 @@
 // The symbol count of settings.
+#![tactic(auto)]
+
 pub mod count;

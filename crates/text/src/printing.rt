@@ -3,7 +3,7 @@ ghost use Rattle.std.specs.Prelude.{◌≡◌, ◌+◌, ◌*◌, ◌<◌, ◌≤
 ghost use Rattle.text.specs.Printing.{header_text, too_long_text, empty_row, pushed, pushed_all, hex_digit, hex_bytes, digit_if, decimal};
 
 // The text is the first `len` bytes; the others are 0.
-#[derive(Drop)]
+#[derive(Clone, Copy)]
 pub struct Row {
     pub bytes: [u8; 40],
     pub len: usize,

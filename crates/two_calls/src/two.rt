@@ -14,25 +14,25 @@ use settings::settings::RawSettings;
 use signal::ht_sig::{Written, write};
 use symbols::count::{Count, symbol_count};
 
-#[derive(Drop)]
+#[derive(Clone, Copy)]
 pub struct TwoCounts {
     pub one: Count,
     pub other: Count,
 }
 
-#[derive(Drop)]
+#[derive(Clone, Copy)]
 pub struct TwoWritten {
     pub one: Written,
     pub other: Written,
 }
 
-#[derive(Drop)]
+#[derive(Clone, Copy)]
 pub struct TwoPoints {
     pub one: PointsAnswer,
     pub other: PointsAnswer,
 }
 
-#[derive(Drop)]
+#[derive(Clone, Copy)]
 pub struct TwoAnswers {
     pub one: QueryAnswer,
     pub other: QueryAnswer,
