@@ -1,0 +1,12 @@
+-- `bytes::put_bytes` meets its contract: each turn puts one byte.
+use Prim.Native.Nat.{◌-◌, ◌*◌, ◌≤◌}
+use lib.ListN.{get_or}
+use Rattle.laws.specs.Filled.{Filled}
+use Rattle.assembler.specs.Assembled.{bits_number}
+use Rattle.assembler.proofs.bytes.put_bytes.Given as goal
+
+abbrev pub invariant-loop-k : goal.invariant-loop-k
+invariant-loop-k l = (l.k ≤ l.count) × Filled 0 l.first (λ i. bits_number (λ j. get_or l.line j 0) (8 * i) 8) l.k l.initial.payload l.payload
+
+abbrev pub decreases-loop-k : goal.decreases-loop-k
+decreases-loop-k l = l.count - l.k
