@@ -1,0 +1,6 @@
+-- `raw_settings` is the definition, field by field.
+use mathlib.Core.Path.{refl}
+use Rattle.conversions.proofs.raw_settings.Goals as goal
+
+pub returns : goal.returns
+returns c = refl
