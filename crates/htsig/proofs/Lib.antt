@@ -1,0 +1,3 @@
+-- The laws of this crate, file by file.
+mod Reading
+mod Writing
