@@ -9,10 +9,8 @@ decode_symbol-requires c = let placed = c.symbol_coded.ensures in
 
 pub returns : goal.returns
 returns c = let placed = c.symbol_coded.ensures in
-    let hs = histories_in c.args.histories in (
-      symbol_filled c.args.plan c.requires.fits placed hs _ c.groups_of.ensures c.decode_symbol.ensures,
-      (
-        symbol_sound c.args.plan c.requires.fits placed hs _ c.groups_of.ensures c.decode_symbol.ensures,
-        symbol_moved c.args.plan c.requires.fits placed hs _ c.groups_of.ensures c.decode_symbol.ensures,
-      ),
-    )
+    let hs = histories_in c.args.histories in record {
+      filled = symbol_filled c.args.plan c.requires.fits placed hs _ c.groups_of.ensures c.decode_symbol.ensures;
+      sound_value = symbol_sound c.args.plan c.requires.fits placed hs _ c.groups_of.ensures c.decode_symbol.ensures;
+      histories_value = symbol_moved c.args.plan c.requires.fits placed hs _ c.groups_of.ensures c.decode_symbol.ensures;
+    }

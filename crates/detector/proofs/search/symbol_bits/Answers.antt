@@ -13,7 +13,7 @@ use Rattle.detector.proofs.search.symbol_bits.Goals as goal
 
 pub hear_place-requires : goal.hear_place-requires
 hear_place-requires c =
-    let tables : PointTables c.args.plan.bits c.axis_bits-s.result c.level_keys-levels.result c.label_keys-labels.result = let s = c.axis_bits-s in record { known = c.requires.fits.bits; axis_is = s.ensures; tables = record { axis = subst (λ (k : ℕ). T (among axis_counts k)) (sym s.ensures) (axis_known c.args.plan.bits c.requires.fits.bits); levels_are = c.level_keys-levels.ensures; labels_are = c.label_keys-labels.ensures; }; } in
+    let tables : PointTables c.args.plan.bits c.axis_bits-s.result c.level_keys-levels.result c.label_keys-labels.result = let s = c.axis_bits-s in record { known = c.requires.fits.bits; axis_is = s.ensures; tables = record { axis = subst (λ (k : ℕ). T (among axis_counts k)) (sym s.ensures) (axis_known c.args.plan.bits c.requires.fits.bits); levels_are = c.level_keys-levels.ensures; labels_are = c.label_keys-labels.ensures } } in
     let heard : PlacesHeard c.args.plan c.args.points.now c.args.format c.args.n c.streams.i c.loop-f.f c.args.bits.now c.loop-f.bits = c.loop-f.invariant.1 c.args.bits.now c.streams.invariant.1 in
     let inside : c.loop-f.f < places_of c.args.plan.width = omega (arith, c.loop-f-test.true, c.places_of-places.ensures) in
     record {
@@ -30,8 +30,7 @@ hear_place-requires c =
 
 pub loop-f-preserved : goal.loop-f-preserved
 loop-f-preserved c =
-    let inside : c.loop-f.f < places_of c.args.plan.width = omega (arith, c.loop-f-test.true, c.places_of-places.ensures) in
-    (
+    let inside : c.loop-f.f < places_of c.args.plan.width = omega (arith, c.loop-f-test.true, c.places_of-places.ensures) in (
       omega (arith, c.loop-f-test.true),
       λ d rows.
           places_more c.args.plan c.args.points.now c.args.format c.args.n c.requires.fits c.streams.i c.loop-f.f d

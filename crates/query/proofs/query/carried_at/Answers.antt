@@ -8,9 +8,9 @@ use Rattle.query.proofs.query.carried_at.Goals as goal
 
 pub use_of-used-requires : goal.use_of-used-requires
 use_of-used-requires c = record {
-      t = c.requires.0.right.width;
-      inside = rw (to_z-of_z c.ranges.subcarrier) (inside_width c.args.s c.args.subcarrier c.requires.1.1);
-    }
+  t = c.requires.0.right.width;
+  inside = rw (to_z-of_z c.ranges.subcarrier) (inside_width c.args.s c.args.subcarrier c.requires.1.1);
+}
 
 pub pilot_at-requires : goal.pilot_at-requires
 pilot_at-requires c =

@@ -13,8 +13,8 @@ loop-t-init c = (omega arith, fill_none _ _ _ _, sym (state_zero _), omega arith
 
 pub loop-t-preserved : goal.loop-t-preserved
 loop-t-preserved c = let inv = c.loop-t.invariant in (
-      search rules,
-      fill_more _ _ _ _ _ _ _ _ (omega arith) (omega arith) (c.output_of.ensures ∙ ap output inv.2) inv.1,
-      c.step-now_at.ensures ∙ ap next inv.2 ∙ step_more _ _,
-      omega (arith, c.step-now_at.ensures),
-    )
+  search rules,
+  fill_more _ _ _ _ _ _ _ _ (omega arith) (omega arith) (c.output_of.ensures ∙ ap output inv.2) inv.1,
+  c.step-now_at.ensures ∙ ap next inv.2 ∙ step_more _ _,
+  omega (arith, c.step-now_at.ensures),
+)

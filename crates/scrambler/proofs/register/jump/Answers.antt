@@ -23,11 +23,11 @@ jump_64-requires c = rw c.jump_32.ensures (state_small _ _ (rw c.jump_16.ensures
 
 pub returns : goal.returns
 returns c = rw (
-      c.jump_64.ensures,
-      c.jump_32.ensures,
-      c.jump_16.ensures,
-      c.jump_8-low.ensures,
-      c.jump_4.ensures,
-      c.jump_2.ensures,
-      c.jump_1.ensures,
-    ) (jumps _ _ c.requires)
+  c.jump_64.ensures,
+  c.jump_32.ensures,
+  c.jump_16.ensures,
+  c.jump_8-low.ensures,
+  c.jump_4.ensures,
+  c.jump_2.ensures,
+  c.jump_1.ensures,
+) (jumps _ _ c.requires)

@@ -12,7 +12,7 @@ field_by r p q s t u v w x = cc
 
 pub returns : goal.returns
 returns c = (
-      field_by c.args.r c.off.ensures.0 c.off-2.ensures.0 c.off-3.ensures.0 c.off-4.ensures.0 c.off-5.ensures.0 c.off-6.ensures.0
-          c.off-7.ensures.0 c.off-8.ensures.0,
-      omega arith,
-    )
+  field_by c.args.r c.off.ensures.0 c.off-2.ensures.0 c.off-3.ensures.0 c.off-4.ensures.0 c.off-5.ensures.0 c.off-6.ensures.0
+      c.off-7.ensures.0 c.off-8.ensures.0,
+  omega arith,
+)

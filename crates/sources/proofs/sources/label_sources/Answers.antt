@@ -14,12 +14,12 @@ use Rattle.sources.proofs.sources.label_sources.Goals as goal
 
 pub stream_sources-requires : goal.stream_sources-requires
 stream_sources-requires c = record {
-      known_width = c.requires.fits.width;
-      known_bits = c.requires.fits.bits;
-      inside = omega (arith, plan_block c.args.plan c.requires.fits);
-      few = (small c.args.plan c.requires.fits).block;
-      room = c.requires.room;
-    }
+  known_width = c.requires.fits.width;
+  known_bits = c.requires.fits.bits;
+  inside = omega (arith, plan_block c.args.plan c.requires.fits);
+  few = (small c.args.plan c.requires.fits).block;
+  room = c.requires.room;
+}
 
 pub overflow_cast-axis_bits : goal.overflow_cast-axis_bits
 overflow_cast-axis_bits c = omega (arith, small c.args.plan c.requires.fits, c.axis_bits.ensures)

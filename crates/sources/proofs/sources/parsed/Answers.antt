@@ -38,6 +38,6 @@ returns-then-s-eq2-2 c = rw (encoders_not_one c.args.encoders c.requires.one_or_
 pub returns : goal.returns
 unfolding encoder_of index_of
 returns c = rw (
-      encoders_not_one c.args.encoders c.requires.one_or_two c.if-encoders-eq1.false,
-      three_left c.args.s c.requires.axis c.if-s-eq1-2.false c.if-s-eq2-2.false,
-    ) (omega arith)
+  encoders_not_one c.args.encoders c.requires.one_or_two c.if-encoders-eq1.false,
+  three_left c.args.s c.requires.axis c.if-s-eq1-2.false c.if-s-eq2-2.false,
+) (omega arith)

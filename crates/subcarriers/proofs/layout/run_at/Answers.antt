@@ -6,11 +6,11 @@ use Rattle.subcarriers.proofs.layout.run_at.Goals as goal
 
 pub loop-r-init : goal.loop-r-init
 loop-r-init c = (
-      omega arith,
-      omega (arith, runs_some c.args.width c.requires.t, c.runs_of-runs.ensures),
-      c.run_of-run.ensures,
-      begins c.args.width c.requires.t c.args.f c.run_of-run.result c.run_of-run.ensures,
-    )
+  omega arith,
+  omega (arith, runs_some c.args.width c.requires.t, c.runs_of-runs.ensures),
+  c.run_of-run.ensures,
+  begins c.args.width c.requires.t c.args.f c.run_of-run.result c.run_of-run.ensures,
+)
 
 pub returns-then-f-next : goal.returns-then-f-next
 returns-then-f-next c = let i = c.loop-r.invariant in
