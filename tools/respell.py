@@ -39,6 +39,9 @@ LEMMAS = set(
     " one_bit part_left read_number step_by value_in".split()
 )
 
+# These are lemmas in one crate alone: elsewhere a field has the name, without '_lem'.
+HOMES = {"one_bit_lem": ("coding",), "whole_bits_lem": ("mapper",), "stream_in_lem": ("modulator", "demands")}
+
 
 def older(name):
     return bool(re.fullmatch(r"[a-zμ][A-Za-z0-9_'₀₁₂-]*", name)) and respelled(name) != name and not name.startswith("invariant-")
@@ -99,7 +102,9 @@ def main():
             # In a proof that walks the code what follows a '.' is a step, but for a field of a record of ours.
             if walk and m.string[: m.start()].endswith(".") and (word not in fields or word in LEMMAS):
                 return word
-            return change[word]
+            now = change[word]
+            away = now in HOMES and p.split(os.sep)[1] not in HOMES[now]
+            return now[: -len("_lem")] if away else now
 
         out = []
         for line in text.split("\n"):

@@ -211,14 +211,14 @@ module _ (s : Settings) (st : Reader) (inputs : List ℕ) (held : InputsHeld s s
       let some = seven s held.right in
       record {
         seven = omega (arith, some, held.whole_inputs);
-        one_bit_lem = λ d l. held.one_bit_lem d (omega (arith, l, some));
+        one_bit = λ d l. held.one_bit d (omega (arith, l, some));
         known = held.in_range.scrambler_most;
       }
 
   pub plain_asked : (p : Plan) → p ≡ plan_for s → (plain : List ℕ) (k : ℕ) → 2160 ≤ length plain → k < 128 → PlainAsked plain inputs k p.dbps
   plain_asked p plan plain k room small =
       let most = (plan_fits s held.right).dbps_most in
-      rw plan (record { room = omega (arith, most, room); whole_inputs = held.whole_inputs; few = most; in_range = small; bits = held.one_bit_lem })
+      rw plan (record { room = omega (arith, most, room); whole_inputs = held.whole_inputs; few = most; in_range = small; bits = held.one_bit })
 
   pub right_asked : (plain : List ℕ) → 2160 ≤ length plain → RightAsked s st.symbol inputs plain
   right_asked plain room = record {

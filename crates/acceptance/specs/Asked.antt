@@ -19,11 +19,11 @@ pub record InputsHeld (s : Settings) (st : Reader) (inputs : List ℕ) : Type 0 
   pub right : Right s
   pub in_range : InRange s st
   pub whole_inputs : (plan_for s).dbps ≤ length inputs
-  pub one_bit_lem : (d : ℕ) → d < (plan_for s).dbps → get_or inputs d 0 < 2
+  pub one_bit : (d : ℕ) → d < (plan_for s).dbps → get_or inputs d 0 < 2
 
 pub record ScramblerAsked (st : Reader) (inputs : List ℕ) : Type 0 where
   pub seven : 7 ≤ length inputs
-  pub one_bit_lem : (d : ℕ) → d < 7 → get_or inputs d 0 < 2
+  pub one_bit : (d : ℕ) → d < 7 → get_or inputs d 0 < 2
   pub known : (st.symbol ≡ 0 → ⊥) → st.scrambler < 128
 
 pub record MovedAsked (s : Settings) (st : Reader) (scrambler : ℕ) : Type 0 where

@@ -146,7 +146,7 @@ encoder_asked {inputs} {coded} {histories} {e} {q} {n} p k l j h inputs' same =
       two = two;
       encoder = h;
       room = omega (arith, p.room);
-      one_bit_lem = λ i b. p.one_bit_lem j i h b;
+      one_bit = λ i b. p.one_bit j i h b;
     }
   where
     source : (j : ℕ) → j < e → e ≤ 2 → 1296 * j + q * n ≤ length coded

@@ -73,7 +73,7 @@ module _ (p : Plan) (f : Fits p) where
       sized = sized;
       source = omega (arith, f.coded_groups, f.coded_most);
       room = omega (arith, f.dbps_groups, asked.room);
-      one_bit_lem = λ j y h l. omega (arith, coded_is j y h l, coded_small p bits asked.one_bit_lem j y);
+      one_bit = λ j y h l. omega (arith, coded_is j y h l, coded_small p bits asked.one_bit j y);
     })
 
     module _ (hs : ℕ → ℕ) where

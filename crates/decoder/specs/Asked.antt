@@ -14,7 +14,7 @@ pub record EncodersAsked (inputs coded histories : List ℕ) (encoders kept grou
   pub sized : length coded ≡ most_coded
   pub source : encoders * (kept * groups) ≤ most_coded
   pub room : encoders * ((kept - 1) * groups) ≤ length inputs
-  pub one_bit_lem : (j y : ℕ) → j < encoders → y < kept * groups → coded_of coded j y < 2
+  pub one_bit : (j y : ℕ) → j < encoders → y < kept * groups → coded_of coded j y < 2
 
 -- all encoders' inverse; with one encoder the second history is as it was
 pub record EncodersDone (hs : ℕ → ℕ) (c : ℕ → ℕ → ℕ) (encoders kept groups : ℕ) (histories : List ℕ) (sound : Bool) (inputs₀ inputs : List ℕ) : Type 0 where

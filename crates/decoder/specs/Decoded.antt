@@ -16,6 +16,6 @@ history_moved p hs X j =
 pub record SymbolInputsAsked (inputs bits histories : List ℕ) (p : Plan) : Type 0 where
   pub fits : Fits p
   pub room : p.dbps ≤ length inputs
-  pub whole_bits_lem : p.streams * p.block ≤ length bits
-  pub one_bit_lem : (k : ℕ) → get_or bits k 0 < 2
+  pub whole_bits : p.streams * p.block ≤ length bits
+  pub one_bit : (k : ℕ) → get_or bits k 0 < 2
   pub six_bits : (j : ℕ) → j < 2 → get_or histories j 0 < 64

@@ -130,7 +130,7 @@ module _ (p : Plan) (f : Fits p) where
           near = omega (arith, stream_near);
           sized = sized;
           inside = omega arith;
-          whole_bits_lem = omega (arith, stream_room);
+          whole_bits = omega (arith, stream_room);
           reached = λ k l. omega (arith, places k l, slot_lt (start + k) (omega arith));
           apart = λ k l h b e. slot_apart (start + k) (start + l) (omega arith) (omega arith) (sym (places k (omega arith)) ∙ e ∙ places l b);
         }

@@ -13,7 +13,7 @@ pub record CodedRunAsked (coded bits table : List ℕ) (shift from first count :
   pub near : from + count ≤ most_coded
   pub sized : length coded ≡ most_coded
   pub inside : first + count ≤ length table
-  pub whole_bits_lem : from + count ≤ length bits
+  pub whole_bits : from + count ≤ length bits
   pub reached : (k : ℕ) → k < count → get_or table (first + k) 0 + shift < length coded
   pub apart : (k l : ℕ) → k < l → l < count → get_or table (first + k) 0 + shift ≡ get_or table (first + l) 0 + shift → ⊥
 
@@ -21,7 +21,7 @@ pub record CodedRunAsked (coded bits table : List ℕ) (shift from first count :
 pub record CodedStreamAsked (coded bits table : List ℕ) (p : Plan) (i : ℕ) : Type 0 where
   pub fits : Fits p
   pub sized : length coded ≡ most_coded
-  pub whole_bits_lem : p.streams * p.block ≤ length bits
+  pub whole_bits : p.streams * p.block ≤ length bits
   pub stream : i < p.streams
   pub wide_enough : p.block ≤ length table
   pub tabled : (r : ℕ) → r < p.block → get_or table r 0 ≡ label_source p r
@@ -29,7 +29,7 @@ pub record CodedStreamAsked (coded bits table : List ℕ) (p : Plan) (i : ℕ) :
 pub record SymbolCodedAsked (coded bits : List ℕ) (p : Plan) : Type 0 where
   pub fits : Fits p
   pub sized : length coded ≡ most_coded
-  pub whole_bits_lem : p.streams * p.block ≤ length bits
+  pub whole_bits : p.streams * p.block ≤ length bits
 
 -- the coded bits of the first streams are their label bits'
 pub record Placed (p : Plan) (bits : List ℕ) (streams : ℕ) (coded₀ coded : List ℕ) : Type 0 where

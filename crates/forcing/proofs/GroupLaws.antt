@@ -26,7 +26,7 @@ module _ {inputs coded : List ℕ} {h q e to i : ℕ} (p : GroupAsked inputs cod
     small = past.small;
     room = omega (arith, p.room t l, past.forced.same);
     source = omega (arith, p.source);
-    one_bit_lem = rw at (p.one_bit_lem (t + 1) l);
+    one_bit = rw at (p.one_bit (t + 1) l);
   }
 
   -- and what it leaves
@@ -92,7 +92,7 @@ module _ {inputs coded : List ℕ} {h q n base e j : ℕ} (p : EncoderAsked inpu
 
     -- the coded bits of the group are bits
     pub group_bit : (k : ℕ) → k < q → get_or coded (i + k) 0 < 2
-    group_bit k b = rw (sym (at k)) (p.one_bit_lem (q * g + k) (omega (arith, (turn l ei et).inside)))
+    group_bit k b = rw (sym (at k)) (p.one_bit (q * g + k) (omega (arith, (turn l ei et).inside)))
 
     pub group_asked : GroupAsked d coded x q e to i
     group_asked =
@@ -110,7 +110,7 @@ module _ {inputs coded : List ℕ} {h q n base e j : ℕ} (p : EncoderAsked inpu
               let r' : e * suc (suc s) ≡ e * s + (e + e) = mul-suc e (suc s) ∙ omega (arith, mul-suc e s) in
               let r'' : e * q ≡ e * (q - 1) + e = ap (λ (k : ℕ). e * k) (omega arith) ∙ mul-suc e (q - 1) ∙ omega arith in
               omega (arith, r, r', r'', t.room, p.encoder, past.forced.same);
-          one_bit_lem = group_bit;
+          one_bit = group_bit;
         }
 
     -- a group more

@@ -10,7 +10,7 @@ pub record StepAsked (inputs coded : List ℕ) (history to i : ℕ) : Type 0 whe
   pub small : history < 64
   pub room : to < length inputs
   pub source : i < length coded
-  pub one_bit_lem : get_or coded i 0 < 2
+  pub one_bit : get_or coded i 0 < 2
 
 pub record StepDone (m history bit to after : ℕ) (inputs₀ inputs : List ℕ) : Type 0 where
   pub moved : after ≡ forced_push m bit history
@@ -33,7 +33,7 @@ pub record GroupAsked (inputs coded : List ℕ) (history kept encoders to i : �
   pub low : i ≤ 9072
   pub source : i + kept ≤ length coded
   pub room : (t : ℕ) → t + 1 < kept → encoders * t + to < length inputs
-  pub one_bit_lem : (k : ℕ) → k < kept → get_or coded (i + k) 0 < 2
+  pub one_bit : (k : ℕ) → k < kept → get_or coded (i + k) 0 < 2
 
 -- encoder j of `encoders`: its coded bits stand from `base` on, its inputs go to encoders·t + j
 pub record EncoderAsked (inputs coded : List ℕ) (history kept groups base encoders j : ℕ) : Type 0 where
@@ -45,7 +45,7 @@ pub record EncoderAsked (inputs coded : List ℕ) (history kept groups base enco
   pub two : encoders ≤ 2
   pub encoder : j < encoders
   pub room : encoders * ((kept - 1) * groups) ≤ length inputs
-  pub one_bit_lem : (i : ℕ) → i < kept * groups → get_or coded (base + i) 0 < 2
+  pub one_bit : (i : ℕ) → i < kept * groups → get_or coded (base + i) 0 < 2
 
 -- every group's first coded bit is that of the forced inputs
 abbrev pub GroupsRight : (h : ℕ) (c : ℕ → ℕ) (kept groups : ℕ) → Type 0

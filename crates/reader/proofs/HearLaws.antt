@@ -150,8 +150,8 @@ module _ (s : Settings) (st : Reader) (p : Plan) (plan : p ≡ plan_for s) where
       rw plan (record {
         fits = fits;
         room = omega (arith, fits.dbps_most, room);
-        whole_bits_lem = a.whole_bits_lem;
-        one_bit_lem = a.one_bit_lem;
+        whole_bits = a.whole_bits;
+        one_bit = a.one_bit;
         six_bits = six_bits st.histories a.in_range.first_history a.in_range.second_history;
       })
 
@@ -168,7 +168,7 @@ module _ (s : Settings) (st : Reader) (p : Plan) (plan : p ≡ plan_for s) where
         right = a.right;
         in_range = a.in_range;
         whole_inputs = omega (arith, (plan_fits s a.right).dbps_most, room);
-        one_bit_lem = λ d l. rw (inputs_at d l) (decoded_bit (plan_for s) (history_of st) (label_bit_in (plan_for s) bits) d);
+        one_bit = λ d l. rw (inputs_at d l) (decoded_bit (plan_for s) (history_of st) (label_bit_in (plan_for s) bits) d);
       };
       whole_payload = a.whole_payload;
     }
@@ -211,8 +211,8 @@ module _ (s : Settings) (st : Reader) (p : Plan) (plan : p ≡ plan_for s) where
       record {
         right = a.right;
         in_range = a.in_range;
-        whole_bits_lem = omega (arith, fits.coded_most, fits.coded_is, mul_comm (plan_for s).streams (plan_for s).block, room, shown.same);
-        one_bit_lem = shown.bit (all_bits bits₀ blank);
+        whole_bits = omega (arith, fits.coded_most, fits.coded_is, mul_comm (plan_for s).streams (plan_for s).block, room, shown.same);
+        one_bit = shown.bit (all_bits bits₀ blank);
         whole_payload = a.whole_payload;
       }
 

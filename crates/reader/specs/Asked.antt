@@ -9,8 +9,8 @@ use Rattle.reader_state.specs.State.{InRange}
 pub record HearBitsAsked (s : Settings) (st : Reader) (bits payload : List ℕ) : Type 0 where
   pub right : Right s
   pub in_range : InRange s st
-  pub whole_bits_lem : (plan_for s).streams * (plan_for s).block ≤ length bits
-  pub one_bit_lem : (k : ℕ) → get_or bits k 0 < 2
+  pub whole_bits : (plan_for s).streams * (plan_for s).block ≤ length bits
+  pub one_bit : (k : ℕ) → get_or bits k 0 < 2
   pub whole_payload : s.length ≤ length payload
 
 pub record PointsAsked (s : Settings) (st : Reader) (points : List Float) (payload : List ℕ) : Type 0 where

@@ -316,7 +316,7 @@ module _ (p : Plan) (points : List Float) (format n : ℕ) where
         stream = first / width;
         place = first % width;
         found = search_first ∙ ap (λ (b : Bool). cond b (At (first / width) (first % width)) AllGiven) (lt-ltb first total below);
-        stream_in_lem = (div-lt_iff_lt-mul {k = width} (places_some p.width)).1 below;
+        stream_in = (div-lt_iff_lt-mul {k = width} (places_some p.width)).1 below;
         place_in = mod-lt first (places_some p.width);
         fails = not_back (point_given p points format n (first / width) (first % width)) true s.passes;
         streams_before = λ i f l u. passed_at i f u (s.first (i * width + f) (omega arith)

@@ -151,16 +151,16 @@ module _ (st : Reader) (points : List Float) (bytes : ℕ) (o : InReach st) wher
       ⊎_elim
       (λ (a : AllPass (plan_for (settings_in st)) points (settings_in st).format st.symbol). (
         λ e. absurd (true_not_false (sym e ∙ ap is_at a.all_given)),
-        λ r. absurd (r.not_given ((given_at r.stream r.place r.stream_in_lem (rw unfolded_width r.place_in)).0
-            (a.passed r.stream r.place r.stream_in_lem (rw unfolded_width r.place_in)))),
+        λ r. absurd (r.not_given ((given_at r.stream r.place r.stream_in (rw unfolded_width r.place_in)).0
+            (a.passed r.stream r.place r.stream_in (rw unfolded_width r.place_in)))),
       ))
       (λ (w : FirstFailing (plan_for (settings_in st)) points (settings_in st).format st.symbol). (
         λ e. record {
           stream = w.stream;
           place = w.place;
-          stream_in_lem = w.stream_in_lem;
+          stream_in = w.stream_in;
           place_in = rw unfolded_width at w.place_in;
-          not_given = not_given w.stream w.place w.stream_in_lem w.place_in w.fails;
+          not_given = not_given w.stream w.place w.stream_in w.place_in w.fails;
         },
         λ r. ap is_at w.found,
       ))
@@ -324,15 +324,15 @@ named_first st points bytes i z e = ⊎_elim opened closed (reach st points byte
         let wide = unfolded_width st points bytes o in
         record {
           place = w.place;
-          stream_in_lem = subst (λ (j : ℕ). j < p.streams) here w.stream_in_lem;
+          stream_in = subst (λ (j : ℕ). j < p.streams) here w.stream_in;
           place_in = rw wide at w.place_in;
           subcarrier = sym (ap step_subcarrier g);
           not_given = subst (λ (j : ℕ). PointByRules p points s.format st.symbol j w.place → ⊥) here
-              (not_given st points bytes o w.stream w.place w.stream_in_lem w.place_in w.fails);
+              (not_given st points bytes o w.stream w.place w.stream_in w.place_in w.fails);
           streams_before = λ j k l m. let l' : j < w.stream = omega (arith, l, here) in
-              (given_at st points bytes o j k (omega (arith, l', w.stream_in_lem)) (rw wide m)).0 (w.streams_before j k l' (rw wide m));
+              (given_at st points bytes o j k (omega (arith, l', w.stream_in)) (rw wide m)).0 (w.streams_before j k l' (rw wide m));
           places_before = λ k l. subst (λ (j : ℕ). PointByRules p points s.format st.symbol j k) here
-              ((given_at st points bytes o w.stream k w.stream_in_lem (omega (arith, l, w.place_in))).0 (w.places_before k l));
+              ((given_at st points bytes o w.stream k w.stream_in (omega (arith, l, w.place_in))).0 (w.places_before k l));
         })
         (search_cases p points s.format st.symbol)
 

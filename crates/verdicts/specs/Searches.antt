@@ -21,7 +21,7 @@ pub record FirstFailing (p : Plan) (points : List Float) (format n : ℕ) : Type
   pub stream : ℕ
   pub place : ℕ
   pub found : search_of p points format n ≡ At stream place
-  pub stream_in_lem : stream < p.streams
+  pub stream_in : stream < p.streams
   pub place_in : place < places_of p.width
   pub fails : point_given p points format n stream place ≡ false
   pub streams_before : (i f : ℕ) → i < stream → f < places_of p.width → point_given p points format n i f ≡ true

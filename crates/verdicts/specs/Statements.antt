@@ -43,7 +43,7 @@ StepRoomRow st floats bytes = (floats < floats_of (settings_in st)) ⊎ (bytes <
 pub record PointRow (st : Reader) (points : List Float) : Type 0 where
   pub stream : ℕ
   pub place : ℕ
-  pub stream_in_lem : stream < (plan_for (settings_in st)).streams
+  pub stream_in : stream < (plan_for (settings_in st)).streams
   pub place_in : place < places_of (settings_in st).width
   pub not_given : PointByRules (plan_for (settings_in st)) points (settings_in st).format st.symbol stream place → ⊥
 
@@ -82,7 +82,7 @@ StepRefusals = (st : Reader) (points : List Float) (bytes : ℕ) → let n = ste
 -- "9 also returns the place: streams in order, subcarriers rising, the first failing point ends the search"
 pub record FirstPlace (st : Reader) (points : List Float) (i : ℕ) (z : ℤ) : Type 0 where
   pub place : ℕ
-  pub stream_in_lem : i < (plan_for (settings_in st)).streams
+  pub stream_in : i < (plan_for (settings_in st)).streams
   pub place_in : place < places_of (settings_in st).width
   pub subcarrier : z ≡ subcarrier_at (settings_in st).width place
   pub not_given : PointByRules (plan_for (settings_in st)) points (settings_in st).format st.symbol i place → ⊥

@@ -11,7 +11,7 @@ pub put_payload-requires : goal.put_payload-requires
 put_payload-requires c = rw c.plan_of-plan.ensures c.requires.asked
 
 pub returns : goal.returns
-returns c = (
-  bytes_by c.args.s c.plan_of-plan.result c.plan_of-plan.ensures c.args.symbol c.args.part c.args.plain.now c.args.payload.now _ c.requires.asked.whole_payload c.put_payload.ensures.filled,
-  left_by c.args.s c.plan_of-plan.result c.plan_of-plan.ensures c.args.symbol c.args.part c.args.plain.now _ c.put_payload.ensures.value,
-)
+returns c = record {
+  payload_after = bytes_by c.args.s c.plan_of-plan.result c.plan_of-plan.ensures c.args.symbol c.args.part c.args.plain.now c.args.payload.now _ c.requires.asked.whole_payload c.put_payload.ensures.filled;
+  value = left_by c.args.s c.plan_of-plan.result c.plan_of-plan.ensures c.args.symbol c.args.part c.args.plain.now _ c.put_payload.ensures.value;
+}

@@ -20,12 +20,12 @@ overflow_sub-rest c =
 pub put_run-requires : goal.put_run-requires
 put_run-requires c =
     let turn : let carriers = c.rotated_carriers.result in Turned c.args.plan c.args.i (c.args.i * c.axis_bits.result) (carriers * c.args.plan.bits) (c.args.plan.block - carriers * c.args.plan.bits) (c.args.i * c.args.plan.block) = turned c.args.plan c.requires.fits c.args.i c.requires.stream _ _ c.axis_bits.ensures c.rotated_carriers.ensures in
-    first_asked c.args.plan c.requires.fits c.args.i c.requires.stream c.args.table.now c.requires.tabled (turn) c.requires.sized c.requires.whole_bits_lem c.requires.wide_enough
+    first_asked c.args.plan c.requires.fits c.args.i c.requires.stream c.args.table.now c.requires.tabled (turn) c.requires.sized c.requires.whole_bits c.requires.wide_enough
 
 pub put_run-requires-2 : goal.put_run-requires-2
 put_run-requires-2 c =
     let turn : let carriers = c.rotated_carriers.result in Turned c.args.plan c.args.i (c.args.i * c.axis_bits.result) (carriers * c.args.plan.bits) (c.args.plan.block - carriers * c.args.plan.bits) (c.args.i * c.args.plan.block) = turned c.args.plan c.requires.fits c.args.i c.requires.stream _ _ c.axis_bits.ensures c.rotated_carriers.ensures in
-    second_asked c.args.plan c.requires.fits c.args.i c.requires.stream c.args.table.now c.requires.tabled (turn) (omega (arith, c.requires.sized, c.put_run.ensures.same)) c.requires.whole_bits_lem c.requires.wide_enough
+    second_asked c.args.plan c.requires.fits c.args.i c.requires.stream c.args.table.now c.requires.tabled (turn) (omega (arith, c.requires.sized, c.put_run.ensures.same)) c.requires.whole_bits c.requires.wide_enough
 
 pub returns : goal.returns
 returns c =
