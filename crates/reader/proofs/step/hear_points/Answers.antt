@@ -1,0 +1,42 @@
+-- `hear_points` goes by whether every point is given.
+use Rattle.reader.proofs.HearLaws.{place_few, stream_few}
+use mathlib.Core.Path.{◌∙◌, refl}
+use native.Mathlib.Omega.{arith}
+use Rattle.reader.proofs.HearLaws.{points_asked, search_by, shown_by, labels_asked, points_refused, points_heard}
+use borrow.Author.Rules.{rules}
+use Rattle.reader.proofs.step.hear_points.Goals as goal
+
+pub symbol_bits-found-requires : goal.symbol_bits-found-requires
+symbol_bits-found-requires c = points_asked c.args.s c.args.reader c.plan_of.result c.plan_of.ensures _ _ c.requires.right c.requires.in_range c.requires.whole_points (omega arith)
+
+pub overflow_cast-result : goal.overflow_cast-result
+overflow_cast-result c = omega (
+  arith,
+  stream_few c.args.s c.requires.right c.args.points.now _ _ _ _ c.in-At.is
+      (search_by c.args.s c.args.reader c.plan_of.result c.plan_of.ensures c.args.points.now _ c.symbol_bits-found.ensures.value),
+)
+
+pub subcarrier_of-requires : goal.subcarrier_of-requires
+subcarrier_of-requires c = record {
+  t = c.requires.right.width;
+  f_bound = place_few c.args.s c.args.points.now _ _ _ _ c.in-At.is (search_by c.args.s c.args.reader c.plan_of.result c.plan_of.ensures c.args.points.now _ c.symbol_bits-found.ensures.value);
+}
+
+pub returns-in-At : goal.returns-in-At
+returns-in-At c = record {
+  value = points_refused c.args.s c.requires.right c.args.reader c.args.points.now c.symbol_bits-found.result _ _ _ _ c.in-At.is (search_by c.args.s c.args.reader c.plan_of.result c.plan_of.ensures c.args.points.now _ c.symbol_bits-found.ensures.value) (search rules ∙ c.subcarrier_of.ensures) c.ended-closed.ensures;
+  payload_after = refl;
+}
+
+pub hear_bits-requires : goal.hear_bits-requires
+hear_bits-requires c = labels_asked c.args.s c.args.reader c.plan_of.result c.plan_of.ensures _ _ c.args.points.now c.symbol_bits-found.result _ c.requires (omega arith) tt c.symbol_bits-found.ensures.bits_shown
+
+pub returns : goal.returns
+returns c = let told = points_heard c.args.s c.requires.right c.args.reader c.args.points.now c.symbol_bits-found.result _ _ _ _ _
+    c.in_default.is
+    (search_by c.args.s c.args.reader c.plan_of.result c.plan_of.ensures c.args.points.now _ c.symbol_bits-found.ensures.value)
+    (shown_by c.args.s c.args.reader c.plan_of.result c.plan_of.ensures c.args.points.now _ _ _ c.symbol_bits-found.ensures.bits_shown) (c.hear_bits.ensures.value, c.hear_bits.ensures.payload_after) in
+    record {
+      value = told.0;
+      payload_after = told.1;
+    }
