@@ -1,0 +1,15 @@
+-- `found_number`: stream and subcarrier are small.
+use mathlib.Core.Path.{◌∙◌, ap}
+use native.Mathlib.Omega.{arith}
+use Prim.Native.Nat.{ℕ, ◌+◌, ◌*◌}
+use lib.IntN.{pos}
+use mir.Facts.{to_z-of_z}
+use Rattle.reader_numbers.proofs.NumberLaws.{place_number_is}
+use Rattle.reader_numbers.proofs.found_number.Goals as goal
+
+pub returns : goal.returns
+returns c = (
+  ap (λ (k : ℕ). pos (256 * k + (c.index.result + 64))) c.byte_number.ensures.0
+      ∙ place_number_is c.args.stream c.index.result c.args.subcarrier (c.index.ensures.0 ∙ to_z-of_z c.ranges.subcarrier) c.index.ensures.1,
+  omega (arith, c.byte_number.ensures.1, c.index.ensures.1),
+)
