@@ -211,8 +211,19 @@ impl ReadRefusal {
     }
 }
 
+/// Where it is, then the refusal with its reason; by `{:#}` in short, `refusal 9 POINT at stream 1, subcarrier -7`.
 impl fmt::Display for ReadRefusal {
     fn fmt(&self, f: &mut fmt::Formatter<'_>) -> fmt::Result {
+        if f.alternate() {
+            write!(f, "{:#}", self.refusal())?;
+            return match self {
+                ReadRefusal::Room { reader } => write!(f, " before symbol {}", reader.symbol()),
+                ReadRefusal::Point { stream, subcarrier } => {
+                    write!(f, " at stream {stream}, subcarrier {subcarrier}")
+                }
+                ReadRefusal::Code | ReadRefusal::Frame => Ok(()),
+            };
+        }
         match self {
             ReadRefusal::Room { reader } => write!(f, "symbol {}: ", reader.symbol())?,
             ReadRefusal::Point { stream, subcarrier } => {

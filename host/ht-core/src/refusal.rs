@@ -86,10 +86,15 @@ impl TryFrom<u32> for Refusal {
     }
 }
 
+/// The reason, then number and name; by `{:#}` number and name alone, `refusal 2 MCS`.
 impl fmt::Display for Refusal {
     fn fmt(&self, f: &mut fmt::Formatter<'_>) -> fmt::Result {
         let (reason, number, name) = (self.reason(), self.number(), self.name());
-        write!(f, "{reason} (refusal {number} {name})")
+        if f.alternate() {
+            write!(f, "refusal {number} {name}")
+        } else {
+            write!(f, "{reason} (refusal {number} {name})")
+        }
     }
 }
 

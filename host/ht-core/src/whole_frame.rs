@@ -148,8 +148,26 @@ impl FrameRefusal {
     }
 }
 
+/// Where it is, then the refusal with its reason; by `{:#}` in short, `refusal 10 CODE in symbol 2`.
 impl fmt::Display for FrameRefusal {
     fn fmt(&self, f: &mut fmt::Formatter<'_>) -> fmt::Result {
+        if f.alternate() {
+            write!(f, "{:#}", self.refusal())?;
+            return match self {
+                FrameRefusal::Settings(_) | FrameRefusal::Room => Ok(()),
+                FrameRefusal::Point {
+                    symbol,
+                    stream,
+                    subcarrier,
+                } => write!(
+                    f,
+                    " in symbol {symbol} at stream {stream}, subcarrier {subcarrier}"
+                ),
+                FrameRefusal::Code { symbol } | FrameRefusal::Frame { symbol } => {
+                    write!(f, " in symbol {symbol}")
+                }
+            };
+        }
         match self {
             FrameRefusal::Settings(_) | FrameRefusal::Room => {}
             FrameRefusal::Point {

@@ -10,14 +10,14 @@ use std::process::{Command, Stdio};
 /// What the program writes for an input.
 fn printed(input: &[u8]) -> Vec<u8> {
     let program = std::env::var_os("HT_LISTING_PROGRAM").map_or_else(
-        || PathBuf::from(env!("CARGO_MANIFEST_DIR")).join("../../target/bin/htsig"),
+        || PathBuf::from(env!("CARGO_MANIFEST_DIR")).join("../../crates/htsig/out/htsig"),
         PathBuf::from,
     );
     let mut child = Command::new(&program)
         .stdin(Stdio::piped())
         .stdout(Stdio::piped())
         .spawn()
-        .unwrap_or_else(|e| panic!("{}: {e}; `rt check` builds it", program.display()));
+        .unwrap_or_else(|e| panic!("{}: {e}; `rt run` or `rt ci` builds it", program.display()));
     let mut stdin = child.stdin.take().unwrap();
     let bytes = input.to_vec();
     // The program may stop reading before the end of a long input, so a failed write is no fault.

@@ -72,6 +72,9 @@ fn a_file_that_is_no_frame_is_refused() {
     changed[last] = 0x80;
     let refused = Err(format!("stream 0, subcarrier 28: {}", Refusal::Point));
     assert_eq!(read(settings, &changed), refused);
+    let in_short = read_back(settings, &mut &*changed).map_err(|error| format!("{error:#}"));
+    let refused = Err("refusal 9 POINT at stream 0, subcarrier 28".to_string());
+    assert_eq!(in_short, refused);
     assert!(read(settings, &file[..last]).is_err());
     assert_eq!(read(settings, &file).map(|(_, read)| read), Ok(payload));
 }
@@ -82,9 +85,12 @@ fn what_the_core_refuses_is_not_played() {
     let settings = typed_settings(20, 7, 20, &mut draw);
     let refusal = |settings, payload: &[u8]| {
         let error = play(settings, payload, &mut Vec::new()).unwrap_err();
-        error.to_string()
+        (error.to_string(), format!("{error:#}"))
     };
+    let words = |refusal: Refusal, in_short: &str| (refusal.to_string(), in_short.to_string());
     let mcs_32 = settings.mcs(32);
-    assert_eq!(refusal(mcs_32, &[0; 20]), Refusal::Mcs.to_string());
-    assert_eq!(refusal(settings, &[0; 19]), Refusal::Source.to_string());
+    let mcs = words(Refusal::Mcs, "refusal 2 MCS");
+    assert_eq!(refusal(mcs_32, &[0; 20]), mcs);
+    let source = words(Refusal::Source, "refusal 6 SOURCE");
+    assert_eq!(refusal(settings, &[0; 19]), source);
 }

@@ -969,7 +969,14 @@ fn refusals_in_words() {
     );
     assert_eq!(ReadRefusal::Code.to_string(), Refusal::Code.to_string());
     assert_eq!(ReadRefusal::Frame.to_string(), Refusal::Frame.to_string());
+    assert_eq!(
+        format!("{point:#}"),
+        "refusal 9 POINT at stream 1, subcarrier -7"
+    );
+    assert_eq!(format!("{:#}", ReadRefusal::Code), "refusal 10 CODE");
+    assert_eq!(format!("{:#}", ReadRefusal::Frame), "refusal 11 FRAME");
     let reader = Reader::start(GOOD).unwrap();
     let room = reader.step(&[], &mut [0]).unwrap_err();
     assert_eq!(room.to_string(), format!("symbol 0: {}", Refusal::Room));
+    assert_eq!(format!("{room:#}"), "refusal 8 ROOM before symbol 0");
 }

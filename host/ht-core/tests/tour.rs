@@ -78,7 +78,8 @@ fn stops_6_to_8_parser_interleaver_and_label() {
     let alternated = s * (429 / s) + (429 + 648 - columns * 429 / 648) % s;
     assert_eq!(alternated, 430);
     let block = second::rates::block(40, 31);
-    assert_eq!((430 + block - 3 * 29 * 6) % block, 556);
+    assert_eq!(block, 648);
+    assert_eq!((430 + 648 - 3 * 29 * 6) % 648, 556);
     assert_eq!((556 / 6, 556 % 6), (92, 4));
     let labels = second::chain::symbol_labels(&SECOND, &payload(), 1).unwrap();
     assert_eq!(labels[3][92 * 6..93 * 6], [1, 0, 1, 0, 1, 1]);

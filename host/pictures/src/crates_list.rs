@@ -33,12 +33,14 @@ fn read_text(path: &Path) -> Result<String, String> {
     fs::read_to_string(path).map_err(|error| format!("{}: {error}", path.display()))
 }
 
-/// Whether a source file has more than comments, or one of a folder has.
+/// Whether a source file has more than comments and attributes of the whole, or one of a folder has.
 fn has_code(path: &Path) -> Result<bool, String> {
     if !path.is_dir() {
         let text = read_text(path)?;
         let mut lines = text.lines().map(str::trim);
-        return Ok(lines.any(|line| !line.is_empty() && !line.starts_with("//")));
+        return Ok(lines.any(|line| {
+            !line.is_empty() && !["//", "#!["].iter().any(|start| line.starts_with(start))
+        }));
     }
     let failed = |error| format!("{}: {error}", path.display());
     for entry in fs::read_dir(path).map_err(failed)? {
@@ -67,8 +69,9 @@ pub fn layers(text: &str) -> Result<Vec<Layer>, String> {
             }
             let layer = layers.last_mut().filter(|layer| !layer.heading.is_empty());
             let layer = layer.ok_or(format!("crates.txt: {name} has no heading"))?;
+            // Words after the name say what kind of library it is: `capi staticlib: ..`.
             layer.crates.push(Crate {
-                name: name.trim().to_string(),
+                name: name.split_whitespace().next().unwrap_or("").to_string(),
                 needs: needs.split_whitespace().map(str::to_string).collect(),
                 has_code: true,
             });
@@ -158,6 +161,16 @@ d: a io
         assert_eq!(
             shown,
             ["Below: a() b(a libc)", "Above, all of it: c(b) d(a io)"]
+        );
+    }
+
+    #[test]
+    fn a_static_library_has_its_name_alone() {
+        let layers = layers("# One\na:\nb staticlib: a\n").unwrap();
+        let b = find(&layers, "b").ok().unwrap();
+        assert_eq!(
+            (b.name.as_str(), &b.needs[..]),
+            ("b", &["a".to_string()][..])
         );
     }
 

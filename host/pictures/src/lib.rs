@@ -25,10 +25,6 @@ pub struct Picture {
 pub fn draw_all() -> Result<[Picture; 5], Box<dyn Error>> {
     Ok([
         Picture {
-            file: "chain.svg",
-            svg: chain::draw()?,
-        },
-        Picture {
             file: "constellation.svg",
             svg: constellation::draw()?,
         },
@@ -39,6 +35,10 @@ pub fn draw_all() -> Result<[Picture; 5], Box<dyn Error>> {
         Picture {
             file: "modulations.svg",
             svg: modulations::draw()?,
+        },
+        Picture {
+            file: "steps.svg",
+            svg: chain::draw()?,
         },
         Picture {
             file: "subcarriers.svg",

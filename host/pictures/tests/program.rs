@@ -61,7 +61,7 @@ fn an_error_names_the_file() {
     let missing = folder.0.join("missing");
     let (code, words) = said(&run(&[&missing]));
     assert_eq!(code, Some(1));
-    let file = missing.join("chain.svg");
+    let file = missing.join("constellation.svg");
     assert!(words.starts_with(&format!("pictures: {}: ", file.display())));
     assert!(!missing.exists());
 }
