@@ -125,13 +125,18 @@ fn library(folder: &Path, repository: &Path, abi: u64) -> Result<PathBuf, String
     // Without the sources, as in a package, there is nothing to compare with.
     let script = repository.join("scripts/sources-hash");
     if script.is_file() && repository.join("crates").is_dir() {
-        for covered in [
-            "crates",
-            "crates.txt",
-            "scripts/closure",
-            "scripts/sources-hash",
-        ] {
+        for covered in ["crates.txt", "scripts/closure", "scripts/sources-hash"] {
             watch(&repository.join(covered));
+        }
+        // Not a crate's out/, which every check writes.
+        let crates = fs::read_dir(repository.join("crates")).map_err(|error| error.to_string())?;
+        for one in crates.flatten() {
+            for part in ["src", "specs", "proofs"] {
+                let part = one.path().join(part);
+                if part.is_dir() {
+                    watch(&part);
+                }
+            }
         }
         let now = sources_hash(&script)?;
         if said("sources") != Some(&now) {
