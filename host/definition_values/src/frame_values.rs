@@ -79,7 +79,7 @@ fn plan(frame: &Frame) -> Row {
         data_bits_per_symbol(width, mcs),
     ];
     Row::new(
-        "planAt s".into(),
+        "plan_at s".into(),
         numbers.into_iter().map(u64::from).collect(),
     )
 }
@@ -105,11 +105,11 @@ fn data_bit_rows(frame: &Frame, random: &mut Random) -> Vec<Row> {
     }
     vec![
         Row::new(
-            format!("plainAt s payload ({})", list(&ds)),
+            format!("plain_at s payload ({})", list(&ds)),
             at(&plain, &ds),
         ),
         Row::new(
-            format!("inputsAt s payload ({})", list(&ds)),
+            format!("inputs_at s payload ({})", list(&ds)),
             at(&inputs, &ds),
         ),
     ]
@@ -135,7 +135,7 @@ fn coded(frame: &Frame, n: u64, random: &mut Random) -> Vec<Row> {
         let mut ys = vec![0, share - 1];
         ys.extend(random.some_below(2, share));
         rows.push(Row::new(
-            format!("codedAt s payload {n} {j} ({})", list(&ys)),
+            format!("coded_at s payload {n} {j} ({})", list(&ys)),
             at(part, &ys),
         ));
     }
@@ -158,12 +158,12 @@ fn labels(frame: &Frame, n: u64, random: &mut Random) -> Vec<Row> {
         let size = label.len() as u64;
         let k = random.below(size);
         let m = random.below(size / axis as u64);
-        rows.push(row("streamBitsAt", i, k, u64::from(dealt[k as usize])));
-        rows.push(row("halvesAt", i, m, half(label, axis, m as usize)));
+        rows.push(row("stream_bits_at", i, k, u64::from(dealt[k as usize])));
+        rows.push(row("halves_at", i, m, half(label, axis, m as usize)));
     }
     let i = random.below(labels.len() as u64) as usize;
     let r = random.below(labels[i].len() as u64);
-    rows.push(row("labelBitsAt", i, r, u64::from(labels[i][r as usize])));
+    rows.push(row("label_bits_at", i, r, u64::from(labels[i][r as usize])));
     rows
 }
 
@@ -202,7 +202,7 @@ fn floats(frame: &Frame, n: u64, i: u32, random: &mut Random) -> Row {
         }
     }
     let expected = gs.iter().map(|g| u64::from(out[*g].to_bits())).collect();
-    Row::new(format!("floatsAt s payload {n} ({})", list(&gs)), expected)
+    Row::new(format!("floats_at s payload {n} ({})", list(&gs)), expected)
 }
 
 /// What the question answers, as the numbers that the row's definition gives.
@@ -220,7 +220,7 @@ fn answered(answer: Result<Carrier, u32>) -> Vec<u64> {
 fn question(frame: &Frame, payload: &[u8], n: u64, i: u64, z: i64) -> Row {
     let name = if payload.is_empty() { "[]" } else { "payload" };
     Row::new(
-        format!("questionAt a {name} {n} {i} {}", integer(z)),
+        format!("question_at a {name} {n} {i} {}", integer(z)),
         answered(carrier(&frame.settings, payload, n, i, z)),
     )
 }
@@ -280,7 +280,7 @@ fn points_answers(frame: &Frame) -> Vec<Row> {
             Err(number) => vec![u64::from(number)],
         };
         rows.push(Row::new(
-            format!("pointsAt a {bytes} {symbol} {room}"),
+            format!("points_at a {bytes} {symbol} {room}"),
             expected,
         ));
     }

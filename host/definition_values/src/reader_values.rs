@@ -91,7 +91,7 @@ fn start(frame: &Frame) -> Row {
     let state = reader_start(&open(&frame.settings)).expect("accepted");
     let mut expected = vec![0];
     expected.extend(state_numbers(&state));
-    Row::new("startAt o".into(), expected)
+    Row::new("start_at o".into(), expected)
 }
 
 /// Label bits as the points show them, two of each stream.
@@ -100,7 +100,7 @@ fn shown(n: u64, heard: &Heard, random: &mut Random) -> Vec<Row> {
     for (i, label) in heard.labels().iter().enumerate() {
         let rs = random.some_below(2, label.len() as u64);
         rows.push(Row::new(
-            format!("shownAt s points{n} {i} ({})", list(&rs)),
+            format!("shown_at s points{n} {i} ({})", list(&rs)),
             rs.iter().map(|r| u64::from(label[*r as usize])).collect(),
         ));
     }
@@ -119,18 +119,18 @@ fn forced(n: u64, heard: &Heard, random: &mut Random) -> Vec<Row> {
         let bit = |y: u64| u64::from(kept[y as usize]);
         let ys = random.some_below(6, kept.len() as u64);
         rows.push(Row::new(
-            format!("codedInAt s labels{n} {j} ({})", list(&ys)),
+            format!("coded_in_at s labels{n} {j} ({})", list(&ys)),
             ys.iter().map(|y| bit(*y)).collect(),
         ));
         rows.push(Row::new(
-            format!("firstCodedAt s st{n} labels{n} {j} ({})", list(&groups)),
+            format!("first_coded_at s st{n} labels{n} {j} ({})", list(&groups)),
             groups.iter().map(|g| bit(g * u64::from(each))).collect(),
         ));
     }
     let found = heard.found().expect("a right symbol");
     let ds: Vec<usize> = (0..14).collect();
     rows.push(Row::new(
-        format!("heardAt s st{n} labels{n} ({})", list(&ds)),
+        format!("heard_at s st{n} labels{n} ({})", list(&ds)),
         ds.iter().map(|d| u64::from(found.bits[*d])).collect(),
     ));
     rows
@@ -153,7 +153,7 @@ fn places(n: u64, heard: &Heard, random: &mut Random) -> Vec<Row> {
                 Ok(Some((stream, z))) => vec![9, u64::from(stream), counted(i64::from(z))],
                 Err(number) => vec![u64::from(number)],
             };
-            let given = format!("firstWrongAt st{n} ({})", list(&float_bits(&floats)));
+            let given = format!("first_wrong_at st{n} ({})", list(&float_bits(&floats)));
             Row::new(given, expected)
         })
         .into()
@@ -229,8 +229,8 @@ fn from_labels(n: u64, heard: &Heard) -> Vec<Row> {
     let (lent, answer, bytes) = stepped(heard);
     let labels = list(&heard.labels().concat());
     vec![
-        Row::new(format!("codeAt s st{n} ({labels})"), answer),
-        Row::new(format!("codeBytesAt s st{n} ({labels}) ({lent})"), bytes),
+        Row::new(format!("code_at s st{n} ({labels})"), answer),
+        Row::new(format!("code_bytes_at s st{n} ({labels}) ({lent})"), bytes),
     ]
 }
 
@@ -246,8 +246,8 @@ fn from_inputs(n: u64, heard: &Heard, inputs: &[u8]) -> Vec<Row> {
     }
     let given = format!("s st{n} ({}) ({})", list(inputs), list(&histories));
     vec![
-        Row::new(format!("frameAt {given}"), answer),
-        Row::new(format!("frameBytesAt {given} ({lent})"), bytes),
+        Row::new(format!("frame_at {given}"), answer),
+        Row::new(format!("frame_bytes_at {given} ({lent})"), bytes),
     ]
 }
 
@@ -298,7 +298,7 @@ fn whole_step(heard: &Heard, before: &State, floats: &[f32], bytes: u32) -> Row 
     let mut payload = vec![0; bytes as usize];
     let (answer, after) = reader_step(&heard.open, before, floats, &mut payload);
     let given = format!(
-        "stepAt ({}) ({}) {bytes}",
+        "step_at ({}) ({}) {bytes}",
         state("o", before),
         list(&float_bits(floats))
     );

@@ -76,7 +76,7 @@ fn raw(s: &Settings) -> String {
 }
 
 fn counted(s: &Settings) -> Row {
-    Row::new(format!("countAt {}", raw(s)), count(s))
+    Row::new(format!("count_at {}", raw(s)), count(s))
 }
 
 fn written(s: &Settings, lent: &[u8]) -> Row {
@@ -85,7 +85,7 @@ fn written(s: &Settings, lent: &[u8]) -> Row {
     let mut expected = vec![u64::from(number)];
     expected.extend(bytes.iter().map(|byte| u64::from(*byte)));
     Row::new(
-        format!("signalWrittenAt {} ({})", raw(s), list(lent)),
+        format!("signal_written_at {} ({})", raw(s), list(lent)),
         expected,
     )
 }
@@ -100,7 +100,7 @@ fn read(sig: &[u8]) -> Row {
         }
         Err(number) => vec![u64::from(number)],
     };
-    Row::new(format!("signalReadAt ({})", list(sig)), expected)
+    Row::new(format!("signal_read_at ({})", list(sig)), expected)
 }
 
 /// Seven bytes are lent, of which the last stays.

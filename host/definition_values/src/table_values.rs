@@ -70,9 +70,9 @@ fn interleaver(width: u32) -> Vec<Theorem> {
             theorems.push(Theorem::new(
                 format!("interleaver-{b}-{stream}"),
                 vec![
-                    row("placesAt", &all, places),
-                    row("sourcesAt", &some, found),
-                    row("sourceFormsAt", &all, sources),
+                    row("places_at", &all, places),
+                    row("sources_at", &some, found),
+                    row("source_forms_at", &all, sources),
                 ],
             ));
         }
@@ -98,7 +98,7 @@ fn parser(width: u32) -> Vec<Theorem> {
                 let ks: Vec<u64> = (0..u64::from(block(width, mcs))).collect();
                 let expected = dealt.iter().flat_map(|(j, y)| [*j, *y]).collect();
                 rows.push(Row::new(
-                    format!("parsedAt {s} {nss} {nes} {i} ({})", list(&ks)),
+                    format!("parsed_at {s} {nss} {nes} {i} ({})", list(&ks)),
                     expected,
                 ));
                 for (k, (j, y)) in (0..).zip(dealt) {
@@ -109,7 +109,7 @@ fn parser(width: u32) -> Vec<Theorem> {
             let ys: Vec<u64> = (0..share).collect();
             for (j, expected) in back.into_iter().enumerate() {
                 rows.push(Row::new(
-                    format!("unparsedAt {s} {nss} {nes} {j} ({})", list(&ys)),
+                    format!("unparsed_at {s} {nss} {nes} {j} ({})", list(&ys)),
                     expected,
                 ));
             }
@@ -139,14 +139,14 @@ fn subcarriers(width: u32) -> Vec<Theorem> {
         Theorem::new(
             "uses",
             vec![Row::new(
-                format!("usesAt {width} ({})", integers(&zs)),
+                format!("uses_at {width} ({})", integers(&zs)),
                 uses,
             )],
         ),
         Theorem::new(
             "subcarriers",
             vec![Row::new(
-                format!("subcarriersAt {width} ({})", list(&fs)),
+                format!("subcarriers_at {width} ({})", list(&fs)),
                 used.iter().map(|z| counted(*z)).collect(),
             )],
         ),
@@ -165,7 +165,7 @@ fn pilots(width: u32) -> Vec<Theorem> {
                 let sign = |q: &u64| pilot(width, nss, i, format, n, *q as u32).expect("a pilot");
                 rows.push(Row::new(
                     format!(
-                        "pilotsAt {width} {nss} {format} {n} {i} ({})",
+                        "pilots_at {width} {nss} {format} {n} {i} ({})",
                         list(&places)
                     ),
                     places.iter().map(|q| counted(i64::from(sign(q)))).collect(),
@@ -190,21 +190,24 @@ fn scrambler() -> Vec<Theorem> {
         let wide: Vec<u64> = outputs.iter().map(|bit| u64::from(*bit)).collect();
         let seven = list(&outputs[..7]);
         rows.push(Row::new(
-            format!("scramblerBitsAt {seed} ({})", list(&first)),
+            format!("scrambler_bits_at {seed} ({})", list(&first)),
             wide,
         ));
         rows.push(Row::new(
-            format!("statesAt {seed} (16 ∷ [])"),
+            format!("states_at {seed} (16 ∷ [])"),
             vec![u64::from(after.number())],
         ));
-        rows.push(Row::new(format!("seedAt ({seven})"), vec![u64::from(seed)]));
+        rows.push(Row::new(
+            format!("seed_at ({seven})"),
+            vec![u64::from(seed)],
+        ));
     }
     let period: Vec<u64> = (0..130).collect();
     let mut long = Vec::new();
     for seed in [1, 93, 127] {
         let outputs = scrambler_sequence(seed, 130);
         long.push(Row::new(
-            format!("scramblerBitsAt {seed} ({})", list(&period)),
+            format!("scrambler_bits_at {seed} ({})", list(&period)),
             outputs.iter().map(|bit| u64::from(*bit)).collect(),
         ));
     }
@@ -225,7 +228,7 @@ fn levels() -> Theorem {
         };
         let expected = labels.iter().map(level_of).collect();
         rows.push(Row::new(
-            format!("levelsAt {s} ({})", list(&labels)),
+            format!("levels_at {s} ({})", list(&labels)),
             expected,
         ));
     }

@@ -66,7 +66,7 @@ pub fn open_settings(s: &OpenSettings) -> String {
 
 fn open_fields(s: &OpenSettings) -> String {
     format!(
-        "width = {}; mcs = {}; format = {}; length = {}; smoothing = {}; «not_sounding» = {}; aggregation = {}; «short_guard» = {}",
+        "width = {}; mcs = {}; format = {}; length = {}; smoothing = {}; not_sounding = {}; aggregation = {}; short_guard = {}",
         s.width, s.mcs, s.format, s.length, s.smoothing, s.not_sounding, s.aggregation, s.short_guard
     )
 }

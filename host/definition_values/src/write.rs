@@ -7,67 +7,65 @@ use std::fs::{create_dir_all, write};
 use std::io::Result;
 use std::path::Path;
 
-const CODE: &str = "// Definitions beside the second program's values: there is no code here.\n";
+const CODE: &str =
+    "// Definitions beside the second program's values: there is no code here.\n#![tactic(auto)]\n";
 
-const USED: &str = "use mathlib.Core.Bool.{true, false}
-use mathlib.Core.List.{List, [], _∷_}
-use Prim.Native.Nat.{ℕ}
-use lib.IntN.{ℤ, pos}
-use Rattle·laws.specs.Claim.{Claim, table}
-use Rattle·laws.specs.Integers.{minus}
-use Rattle·settings.specs.declared.settings.RawSettings.{RawSettings}
-use Rattle·settings.specs.declared.settings.Settings.{Settings}
-use Rattle·reader_state.specs.declared.state.OpenSettings.{OpenSettings}
-use Rattle·reader_state.specs.declared.state.Reader.{Reader}
+const USED: &str = "use Rattle.std.specs.Prelude.{true, false, List, [], ◌∷◌, ℕ, ℤ, pos}
+use Rattle.laws.specs.Claim.{Claim}
+use Rattle.laws.specs.Integers.{minus}
+use Rattle.settings.specs.declared.settings.RawSettings.{RawSettings}
+use Rattle.settings.specs.declared.settings.Settings.{Settings}
+use Rattle.reader_state.specs.declared.state.OpenSettings.{OpenSettings}
+use Rattle.reader_state.specs.declared.state.Reader.{Reader}
 ";
 
 /// The definitions that stay shut unless they are named, by the module that has them.
 const SHUT: [(&str, &str); 25] = [
-    ("lib.Ieee", "toBits ofInt ofBits"),
-    ("Rattle·chain.specs.Plan", "planOf"),
-    ("Rattle·chain.specs.Scrambler", "stateAt seedOf"),
-    ("Rattle·chain.specs.DataBits", "dataBit inputWith"),
-    ("Rattle·chain.specs.Encoder", "tap"),
-    ("Rattle·chain.specs.Puncture", "keptOf keptStep"),
-    ("Rattle·chain.specs.Parser", "axisBits encoderOf indexOf streamOf bitOf"),
+    ("Rattle.std.specs.Float.Ieee", "to_bits of_int of_bits"),
+    ("Rattle.chain.specs.Plan", "plan_of"),
+    ("Rattle.chain.specs.Scrambler", "state_at seed_of"),
+    ("Rattle.chain.specs.DataBits", "data_bit input_with"),
+    ("Rattle.chain.specs.Encoder", "tap"),
+    ("Rattle.chain.specs.Puncture", "kept_of kept_step"),
+    ("Rattle.chain.specs.Parser", "axis_bits encoder_of index_of stream_of bit_of"),
     (
-        "Rattle·chain.specs.Interleaver",
-        "columns rows rotation blockOf byColumns alternated shiftOf rotated place source unrotated unalternated byRows sourceForm",
+        "Rattle.chain.specs.Interleaver",
+        "columns rows rotation block_of by_columns alternated shift_of rotated place source unrotated unalternated by_rows source_form",
     ),
-    ("Rattle·chain.specs.Labels", "codedBit streamBit labelBit written"),
+    ("Rattle.chain.specs.Labels", "coded_bit stream_bit label_bit written"),
     (
-        "Rattle·chain.specs.Decoder",
-        "historyAfter sumAfter codedAfter forcingBit forcedHistory forcedInput inputsOf checks codedIn",
+        "Rattle.chain.specs.Decoder",
+        "history_after sum_after coded_after forcing_bit forced_history forced_input inputs_of checks coded_in",
     ),
-    ("Rattle·settings.specs.Settings", "planFor"),
-    ("Rattle·symbols.specs.Symbols", "symbolsOf"),
+    ("Rattle.settings.specs.Settings", "plan_for"),
+    ("Rattle.symbols.specs.Symbols", "symbols_of"),
     (
-        "Rattle·signal.specs.HtSig",
-        "headBits sigBits sigBytes field crcWrong formWrong fieldsIn",
+        "Rattle.signal.specs.HtSig",
+        "head_bits sig_bits sig_bytes field crc_wrong form_wrong fields_in",
     ),
     (
-        "Rattle·subcarriers.specs.Subcarriers",
-        "usedSubcarriers pilotSubcarriers dataSubcarriers useOf subcarrierAt",
+        "Rattle.subcarriers.specs.Subcarriers",
+        "used_subcarriers pilot_subcarriers data_subcarriers use_of subcarrier_at",
     ),
-    ("Rattle·pilots.specs.Pilots", "patternOf polarityBit pilotSign"),
-    ("Rattle·mapper.specs.Levels", "levelOf carrierLevels"),
+    ("Rattle.pilots.specs.Pilots", "pattern_of polarity_bit pilot_sign"),
+    ("Rattle.mapper.specs.Levels", "level_of carrier_levels"),
     (
-        "Rattle·modulator.specs.Symbol",
-        "carriedLevels sentLevels streamLevel symbolFloat",
+        "Rattle.modulator.specs.Symbol",
+        "carried_levels sent_levels stream_level symbol_float",
     ),
-    ("Rattle·query.specs.Query", "carriedOf"),
-    ("Rattle·demapper.specs.Demapped", "levelLabel negatedLabel dataGiven pointBit"),
+    ("Rattle.query.specs.Query", "carried_of"),
+    ("Rattle.demapper.specs.Demapped", "level_label negated_label data_given point_bit"),
     (
-        "Rattle·detector.specs.Detected",
-        "pointGiven searchOf carrierPlaceOf shownBit",
+        "Rattle.detector.specs.Detected",
+        "point_given search_of carrier_place_of shown_bit",
     ),
-    ("Rattle·decoder.specs.Decoded", "historyMoved"),
-    ("Rattle·deframer.specs.Deframed", "inputOk framed"),
-    ("Rattle·assembler.specs.Assembled", "bitsNumber knownBit"),
-    ("Rattle·reader_state.specs.State", "closedOf"),
+    ("Rattle.decoder.specs.Decoded", "history_moved"),
+    ("Rattle.deframer.specs.Deframed", "input_ok framed"),
+    ("Rattle.assembler.specs.Assembled", "bits_number known_bit"),
+    ("Rattle.reader_state.specs.State", "closed_of"),
     (
-        "Rattle·acceptance.specs.Accepted",
-        "scramblerFor frameRight bytesInto",
+        "Rattle.acceptance.specs.Accepted",
+        "scrambler_for frame_right bytes_into",
     ),
 ];
 
@@ -100,7 +98,7 @@ pub fn write_crate(folder: &Path, krate: &Crate) -> Result<()> {
 /// The claims of a module: for each theorem a table of its rows.
 fn rows(krate: &str, module: &Module) -> String {
     let mut text = format!(
-        "-- Definitions at arguments, beside the second program's values.\n{USED}use Rattle·{krate}·specs.specs.Given.{{{}}}\nuse Rattle·{krate}·specs.specs.ReaderGiven.{{{}}}\n\n{}",
+        "-- Definitions at arguments, beside the second program's values.\n{USED}use Rattle.{krate}.specs.Given.{{{}}}\nuse Rattle.{krate}.specs.ReaderGiven.{{{}}}\n\n{}",
         names_declared(GIVEN),
         names_declared(READER_GIVEN),
         module.shared
@@ -132,7 +130,7 @@ fn claim(theorem: &Theorem) -> String {
 
 /// The theorems of a module, each by its computed test.
 fn proof(krate: &str, module: &Module) -> String {
-    let mut text = String::from("-- The rows hold, each table by one computed test.\nuse Rattle·laws.specs.Claim.{Holds, sound}\n");
+    let mut text = String::from("-- The rows hold, each table by one computed test.\nuse Rattle.laws.specs.Claim.{Holds, sound}\n");
     let mut opened = String::from("unfolding");
     for (home, names) in SHUT {
         text.push_str(&format!("use {home}.{{{}}}\n", names.replace(' ', ", ")));
@@ -141,7 +139,7 @@ fn proof(krate: &str, module: &Module) -> String {
     let names: Vec<&str> = module.theorems.iter().map(|t| t.name.as_str()).collect();
     let rows = names.join(", ");
     text.push_str(&format!(
-        "use Rattle·{krate}·specs.specs.{}.{{{rows}}}\n",
+        "use Rattle.{krate}.specs.{}.{{{rows}}}\n",
         module.name
     ));
     for name in names {
