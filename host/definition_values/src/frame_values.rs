@@ -34,21 +34,21 @@ pub fn module(mcs: u32, width: u32) -> Module {
     let mut random = Random::of(1000 * mcs + width);
     let mut theorems = vec![
         Theorem::new("plan", vec![plan(&frame)]),
-        Theorem::new("data-bits", data_bit_rows(&frame, &mut random)),
-        Theorem::new("points-answers", points_answers(&frame)),
+        Theorem::new("data_bits", data_bit_rows(&frame, &mut random)),
+        Theorem::new("points_answers", points_answers(&frame)),
     ];
     for n in 0..SYMBOLS {
-        let mut add = |name, rows| theorems.push(Theorem::new(format!("{name}-{n}"), rows));
+        let mut add = |name, rows| theorems.push(Theorem::new(format!("{name}_{n}"), rows));
         add("coded", coded(&frame, n, &mut random));
         add("labels", labels(&frame, n, &mut random));
         add("questions", questions(&frame, n, &mut random));
         for i in 0..streams(mcs) {
-            let name = format!("floats-{n}-{i}");
+            let name = format!("floats_{n}_{i}");
             let row = floats(&frame, n, i, &mut random);
             theorems.push(Theorem::new(name, vec![row]));
         }
     }
-    theorems.push(Theorem::new("refused-questions", refused_questions(&frame)));
+    theorems.push(Theorem::new("refused_questions", refused_questions(&frame)));
     Module {
         name: format!("Mcs{mcs}"),
         shared: shared(&frame),

@@ -1,7 +1,7 @@
 //! The text of the module that every crate has: what the definitions give, as lists of numbers, and when two such lists agree.
 
 pub const GIVEN: &str = r#"-- What the definitions give, as lists of numbers, and when two such lists agree.
-use Rattle.std.specs.Prelude.{Bool, cond, List, [], ◌∷◌, ◌++◌, ℕ, length, get_or, ℤ, Float}
+use Rattle.std.specs.Prelude.{Bool, cond, List, [], ◌∷◌, ◌++◌, ℕ, ℤ, length, get_or, Float}
 use Rattle.std.specs.Float.{binary32}
 use Rattle.std.specs.Float.Ieee.{to_bits}
 use Rattle.laws.specs.Claim.{Claim, ◌is◌, ◌and◌}
@@ -43,11 +43,6 @@ agree [] [] = 0 is 0
 agree [] (y ∷ ys) = 0 is 1
 agree (x ∷ xs) [] = 0 is 1
 agree (x ∷ xs) (y ∷ ys) = (x is y) and agree xs ys
-
--- a table of claims, each a row, as one claim
-abbrev pub table : List Claim → Claim
-table [] = 0 is 0
-table (c ∷ cs) = c and table cs
 
 -- at each number of a list
 abbrev pub at_each : (ℕ → ℕ) → List ℕ → List ℕ
@@ -103,7 +98,7 @@ kind_of (Pilot sign) = 1
 kind_of (Data p) = 2
 
 abbrev pub question_answered : QueryAnswer → List ℕ
-question_answered (Carries c) = 0 ∷ (kind_of c ∷ (bits ((carried_point c).first) ∷ (bits ((carried_point c).second) ∷ [])))
+question_answered (Carries c) = 0 ∷ (kind_of c ∷ (bits (carried_point c).first ∷ (bits (carried_point c).second ∷ [])))
 question_answered (QueryRefused r) = number_of r ∷ []
 
 abbrev pub question_at : RawSettings → (payload : List ℕ) (symbol stream : ℕ) (z : ℤ) → List ℕ
@@ -212,14 +207,14 @@ floats_in (b ∷ bs) = of_bits binary32 b ∷ floats_in bs
 
 -- label bits in a list, stream by stream
 abbrev pub labels_in : Settings → (labels : List ℕ) (i r : ℕ) → ℕ
-labels_in s labels i r = get_or labels (i * plan_for s.block + r) 0
+labels_in s labels i r = get_or labels (i * (plan_for s).block + r) 0
 
 abbrev pub state_numbers : Reader → List ℕ
 state_numbers st =
     st.symbol ∷ (flag st.ended ∷ (get_or st.histories 0 0 ∷ (get_or st.histories 1 0 ∷ (st.scrambler ∷ (st.part ∷ [])))))
 
 abbrev pub start_at : OpenSettings → List ℕ
-start_at o = start_number ((start_of o).answer) ∷ state_numbers ((start_of o).state)
+start_at o = start_number (start_of o).answer ∷ state_numbers (start_of o).state
 
 -- the answer's number, seed and place, and the state
 abbrev pub stepped_numbers : Stepped → List ℕ
@@ -252,7 +247,7 @@ heard_at s st labels ds = at_each (heard_input s st (labels_in s labels)) ds
 -- the first coded bit of each group, as the forced inputs give it: what the test for refusal 10 compares
 abbrev pub first_coded_at : Settings → Reader → (labels : List ℕ) (j : ℕ) (groups : List ℕ) → List ℕ
 first_coded_at s st labels j groups =
-    let kept = plan_for s.kept in
+    let kept = (plan_for s).kept in
     let c = coded_in (plan_for s) (labels_in s labels) j in
     at_each (λ g. coded_after (history_of st j) (forced_input (history_of st j) c kept) kept (kept * g)) groups
 

@@ -34,7 +34,7 @@ fn module(mcs: u32, width: u32) -> Module {
     for n in 0..SYMBOLS {
         let heard = heard(&frame, n);
         shared.push_str(&shared_symbol(n, &heard));
-        let mut add = |name: &str, rows| theorems.push(Theorem::new(format!("{name}-{n}"), rows));
+        let mut add = |name: &str, rows| theorems.push(Theorem::new(format!("{name}_{n}"), rows));
         if n == u64::from(mcs) % SYMBOLS {
             add("shown", shown(n, &heard, &mut random));
             add("forced", forced(n, &heard, &mut random));
@@ -43,15 +43,15 @@ fn module(mcs: u32, width: u32) -> Module {
         if data_bits <= FROM_INPUTS {
             for (name, inputs) in inputs(n, &heard) {
                 let other = heard.with_inputs(&inputs);
-                add(&format!("{name}-inputs"), from_inputs(n, &other, &inputs));
+                add(&format!("{name}_inputs"), from_inputs(n, &other, &inputs));
                 if data_bits <= FROM_LABELS {
-                    add(&format!("{name}-labels"), from_labels(n, &other));
+                    add(&format!("{name}_labels"), from_labels(n, &other));
                 }
             }
         }
         if data_bits <= FROM_LABELS {
-            add("wrong-code", wrong_codes(n, &heard, &mut random));
-            add("refused-steps", refused_steps(&frame, &heard));
+            add("wrong_code", wrong_codes(n, &heard, &mut random));
+            add("refused_steps", refused_steps(&frame, &heard));
         }
     }
     Module {
@@ -185,7 +185,7 @@ fn inputs(n: u64, heard: &Heard) -> Vec<(&'static str, Vec<u8>)> {
     if n == 0 {
         let mut zeros = right.clone();
         zeros[..7].fill(0);
-        all.push(("no-seed", zeros));
+        all.push(("no_seed", zeros));
     }
     all
 }

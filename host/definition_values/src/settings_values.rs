@@ -59,7 +59,7 @@ fn of_mcs(mcs: u32, width: u32) -> Theorem {
         };
         rows.extend(written_and_read(&s));
     }
-    Theorem::new(format!("mcs-{mcs}"), rows)
+    Theorem::new(format!("mcs_{mcs}"), rows)
 }
 
 /// 0 and the count, or the refusal's number.
@@ -129,7 +129,7 @@ fn refused_settings() -> Theorem {
     let mut rows: Vec<Row> = all.iter().map(counted).collect();
     rows.extend(all.iter().map(|s| written(s, &[85; 6])));
     rows.push(written(&good, &[85; 5]));
-    Theorem::new("refused-settings", rows)
+    Theorem::new("refused_settings", rows)
 }
 
 /// Each bit of a right signal turned over, alone and with a right CRC; five and seven bytes.
@@ -150,5 +150,5 @@ fn refused_signals() -> Theorem {
         });
         rows.push(read(&with_crc.expect("one CRC is right")[..6]));
     }
-    Theorem::new("refused-signals", rows)
+    Theorem::new("refused_signals", rows)
 }

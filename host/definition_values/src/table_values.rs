@@ -68,7 +68,7 @@ fn interleaver(width: u32) -> Vec<Theorem> {
                 Row::new(given, expected)
             };
             theorems.push(Theorem::new(
-                format!("interleaver-{b}-{stream}"),
+                format!("interleaver_{b}_{stream}"),
                 vec![
                     row("places_at", &all, places),
                     row("sources_at", &some, found),
@@ -113,7 +113,7 @@ fn parser(width: u32) -> Vec<Theorem> {
                     expected,
                 ));
             }
-            theorems.push(Theorem::new(format!("parser-{b}-{nss}"), rows));
+            theorems.push(Theorem::new(format!("parser_{b}_{nss}"), rows));
         }
     }
     theorems
@@ -171,7 +171,7 @@ fn pilots(width: u32) -> Vec<Theorem> {
                     places.iter().map(|q| counted(i64::from(sign(q)))).collect(),
                 ));
             }
-            theorems.push(Theorem::new(format!("pilots-{nss}-{format}"), rows));
+            theorems.push(Theorem::new(format!("pilots_{nss}_{format}"), rows));
         }
     }
     theorems
@@ -212,8 +212,8 @@ fn scrambler() -> Vec<Theorem> {
         ));
     }
     vec![
-        Theorem::new("scrambler-starts", rows),
-        Theorem::new("scrambler-periods", long),
+        Theorem::new("scrambler_starts", rows),
+        Theorem::new("scrambler_periods", long),
     ]
 }
 

@@ -39,7 +39,7 @@ fn the_floats_are_those_of_the_second_program() {
         assert!(points.len() as u64 >= SYMBOLS);
         let mut seen = 0;
         for theorem in module(mcs, width).theorems {
-            let Some(rest) = theorem.name.strip_prefix("floats-") else {
+            let Some(rest) = theorem.name.strip_prefix("floats_") else {
                 continue;
             };
             let symbol: usize = rest[..1].parse().unwrap();
@@ -101,7 +101,7 @@ fn each_theorem_is_written_once() {
     remove_dir_all(&folder).unwrap();
     for theorem in &krate.modules[0].theorems {
         let name = &theorem.name;
-        let proved = format!("\npub {name}-agrees : Holds {name}\n");
+        let proved = format!("\npub {name}_agrees : Holds {name}\n");
         assert_eq!(proofs.matches(&proved).count(), 1);
         for row in &theorem.rows {
             assert!(rows.contains(&row.given));

@@ -11,7 +11,7 @@ const CODE: &str =
     "// Definitions beside the second program's values: there is no code here.\n#![tactic(auto)]\n";
 
 const USED: &str = "use Rattle.std.specs.Prelude.{true, false, List, [], ◌∷◌, ℕ, ℤ, pos}
-use Rattle.laws.specs.Claim.{Claim}
+use Rattle.laws.specs.Claim.{Claim, table}
 use Rattle.laws.specs.Integers.{minus}
 use Rattle.settings.specs.declared.settings.RawSettings.{RawSettings}
 use Rattle.settings.specs.declared.settings.Settings.{Settings}
@@ -144,7 +144,7 @@ fn proof(krate: &str, module: &Module) -> String {
     ));
     for name in names {
         text.push_str(&format!(
-            "\npub {name}-agrees : Holds {name}\n{opened}\n{name}-agrees = sound {name} tt\n"
+            "\npub {name}_agrees : Holds {name}\n{opened}\n{name}_agrees = sound {name} tt\n"
         ));
     }
     text
