@@ -5,6 +5,6 @@ use Rattle.two_calls.proofs.two.two_counts.Goals as goal
 
 pub returns : goal.returns
 returns c = record {
-      made = (c.symbol_count-one.ensures, c.symbol_count-other.ensures);
-      alike = λ e. c.symbol_count-one.ensures ∙ same_count c.args.raw c.args.other-raw e ∙ sym c.symbol_count-other.ensures;
-    }
+  made = (c.symbol_count-one.ensures, c.symbol_count-other.ensures);
+  alike = λ e. c.symbol_count-one.ensures ∙ same_count c.args.raw c.args.other_raw e ∙ sym c.symbol_count-other.ensures;
+}

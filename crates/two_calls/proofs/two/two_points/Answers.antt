@@ -11,9 +11,9 @@ use Rattle.two_calls.proofs.two.two_points.Goals as goal
 pub returns : goal.returns
 returns c = let a = c.args in
     let told : (Sentence : (a a' : RawSettings) (p q : List ℕ) (n : ℕ) (out out' : List Float) (r r' : PointsAnswer) (l l' : List Float) → Type 0) (term : OfPoints Sentence)
-    → Sentence a.raw a.other-raw a.payload.now a.other-payload.now a.symbol a.out.now a.other-out.now _ _ _ _
+    → Sentence a.raw a.other_raw a.payload.now a.other_payload.now a.symbol a.out.now a.other_out.now _ _ _ _
     = λ Sentence term.
-    of_points Sentence term a.raw a.other-raw a.payload.now a.other-payload.now a.symbol a.out.now a.other-out.now _ _ _ _
+    of_points Sentence term a.raw a.other_raw a.payload.now a.other_payload.now a.symbol a.out.now a.other_out.now _ _ _ _
     c.points-one.ensures.value c.points-other.ensures.value c.points-one.ensures.out_after c.points-other.ensures.out_after in record {
       made = (c.points-one.ensures.value, c.points-other.ensures.value);
       left = (c.points-one.ensures.out_after, c.points-other.ensures.out_after);

@@ -11,8 +11,8 @@ pub returns : goal.returns
 returns c = let a = c.args in
     let z = to_z-of_z c.ranges.at in
     let one = c.subcarrier-one.ensures ∙ ap (query_of (check_of a.raw) a.payload.now a.symbol a.stream) z in
-    let other = c.subcarrier-other.ensures ∙ ap (query_of (check_of a.other-raw) a.other-payload.now a.symbol a.stream) z in record {
+    let other = c.subcarrier-other.ensures ∙ ap (query_of (check_of a.other_raw) a.other_payload.now a.symbol a.stream) z in record {
       made = (one, other);
-      alike = of_queries SameQuery same_query a.raw a.other-raw a.payload.now a.other-payload.now a.symbol a.stream a.at _ _ one other;
-      local = of_queries LocalQuery local_query a.raw a.other-raw a.payload.now a.other-payload.now a.symbol a.stream a.at _ _ one other;
+      alike = of_queries SameQuery same_query a.raw a.other_raw a.payload.now a.other_payload.now a.symbol a.stream a.at _ _ one other;
+      local = of_queries LocalQuery local_query a.raw a.other_raw a.payload.now a.other_payload.now a.symbol a.stream a.at _ _ one other;
     }
