@@ -16,6 +16,7 @@ use Rattle.frame_steps.specs.declared.steps.FrameAnswer.TheVariants.{BadPoint}
 use Rattle.frame_steps.specs.WholeFrame.{refused_as}
 use Rattle.frame_steps.proofs.LoopLaws.{refusal_some, before_first, inside, before_next, read_refused, read_all}
 use Rattle.frame_steps.proofs.steps.read_symbols.Goals as goal
+use Rattle.frame_steps.proofs.steps.read_symbols.Goals.{in-First, in-Next}
 
 pub loop-n-init : goal.loop-n-init
 loop-n-init c = before_first c.args.reader c.args.count c.args.floats c.args.points.now c.args.payload.now c.requires
@@ -77,8 +78,8 @@ loop-n-preserved c =
     let answer_of : c.step-stepped.result ≡ step_of c.loop-n.state (drop c.loop-n.at c.args.points.now) (length c.loop-n.payload) = c.step-stepped.ensures.value ∙ ap (λ (p : List Float). step_of c.loop-n.state p (length c.loop-n.payload)) (part_to_end c.args.points.now c.loop-n.at) in
     let payload_of_lem : c.step-stepped.new.payload ≡ step_into c.loop-n.state (drop c.loop-n.at c.args.points.now) c.loop-n.payload = c.step-stepped.ensures.payload_after ∙ ap (λ (p : List Float). step_into c.loop-n.state p c.loop-n.payload) (part_to_end c.args.points.now c.loop-n.at) in
     before_next c.args.reader c.args.count c.args.floats c.args.points.now c.args.payload.now c.requires c.loop-n.n c.loop-n.payload c.loop-n.state c.loop-n.seed c.loop-n.at c.loop-n.invariant
-    (below) c.step-stepped.result (answer_of) _ (payload_of_lem) c.in-First.seed
-    (⊎_elim (λ w. inl (w.1.given.1 ∙ ap First (sym w.3))) (λ w. inr (w.1.given.1, w.2)) c.in-First.branch) c.step-stepped.auto.payload
+    (below) c.step-stepped.result (answer_of) _ (payload_of_lem) c.match-answer.seed
+    (elim c.match-answer.branch [ in-First w ↦ inl (w.in-First.is ∙ ap First (sym w.seed-is)) | in-Next w ↦ inr (w.in-Next.is, w.seed-is) ]) c.step-stepped.auto.payload
 
 pub returns : goal.returns
 returns c = read_all c.args.reader c.args.count c.args.floats c.args.points.now c.args.payload.now c.requires c.loop-n.n c.loop-n.payload c.loop-n.state c.loop-n.seed c.loop-n.at c.loop-n.invariant (omega (arith, c.loop-n-test.false, c.requires.counted))
