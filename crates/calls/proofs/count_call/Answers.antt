@@ -1,0 +1,18 @@
+-- `count_call`: a number for each answer.
+use mathlib.Core.Path.{sym, ap, ◌∙◌}
+use native.Mathlib.Omega.{arith}
+use Rattle.symbols.proofs.CountLaws.{count_few}
+use Rattle.conversions.specs.Results.{count_result}
+use Rattle.conversions.proofs.Minus.{pos_fits, pos_is}
+use borrow.Author.Rules.{rules}
+use Rattle.calls.proofs.count_call.Goals as goal
+
+pub overflow_cast-result : goal.overflow_cast-result
+overflow_cast-result c = pos_fits c.in-Symbols.n (omega (arith, count_few c.args.raw c.in-Symbols.n (sym c.symbol_count.ensures ∙ c.in-Symbols.is)))
+
+pub returns-in-Symbols : goal.returns-in-Symbols
+returns-in-Symbols c = let e = sym c.in-Symbols.is ∙ c.symbol_count.ensures in
+    pos_is c.in-Symbols.n (omega (arith, count_few c.args.raw c.in-Symbols.n (sym e))) ∙ ap count_result e
+
+pub returns-in-Refused : goal.returns-in-Refused
+returns-in-Refused c = search rules ∙ c.refused.ensures ∙ ap count_result (sym c.in-Refused.is ∙ c.symbol_count.ensures)

@@ -1,0 +1,20 @@
+-- `sig_read_call`: a number for each answer.
+use mathlib.Core.Path.{sym, ap, ◌∙◌}
+use native.Mathlib.Omega.{arith}
+use lib.IntN.{pos}
+use Rattle.signal.proofs.ReadFields.{read_fields_fit}
+use Rattle.conversions.specs.Results.{read_result}
+use Rattle.conversions.proofs.Minus.{pos_is}
+use borrow.Author.Rules.{rules}
+use Rattle.calls.proofs.sig_read_call.Goals as goal
+
+pub fields_number-requires : goal.fields_number-requires
+fields_number-requires c = read_fields_fit c.args.sig.now c.in-Fields.g (sym c.read.ensures ∙ c.in-Fields.is)
+
+pub returns-in-Fields : goal.returns-in-Fields
+returns-in-Fields c = pos_is c.fields_number.result (omega (arith, c.fields_number.ensures.1))
+    ∙ ap pos c.fields_number.ensures.0
+    ∙ ap read_result (sym c.in-Fields.is ∙ c.read.ensures)
+
+pub returns-in-Refused : goal.returns-in-Refused
+returns-in-Refused c = search rules ∙ c.refused.ensures ∙ ap read_result (sym c.in-Refused.is ∙ c.read.ensures)
