@@ -1,3 +1,4 @@
+-- `print_lines` writes the rows of the lines that are still to come.
 use Rattle.std.proofs.Common.{◌++◌, subst, sym, ap, ◌∙◌}
 use Rattle.std.specs.Io.KnownBytes.{Appends}
 use Rattle.listing.proofs.ListingLaws.{listing_line}

@@ -1,3 +1,4 @@
+-- `print_listing` writes the header first, and then what the listing has after it.
 use Rattle.std.proofs.Common.{rules, true, false, refl}
 use Rattle.std.proofs.lemmas.Result.{on_ok_weaker}
 use Rattle.htsig.proofs.Writing.{listing_written}

@@ -1,3 +1,4 @@
+-- `read_full` has put what it consumed at the start of the buffer.
 use Rattle.std.proofs.Common.{rules, subst}
 use Rattle.std.specs.Io.KnownBytes.{Consumes}
 use Rattle.std.proofs.KnownBytes.{Consumes-trans}

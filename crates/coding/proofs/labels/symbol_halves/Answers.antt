@@ -1,5 +1,4 @@
 -- `symbol_halves` writes the half labels stream by stream.
-use Prim.Native.Nat.{◌-◌}
 use borrow.Author.Rules.{rules}
 use Rattle.coding.proofs.HalfLaws.{halves_more}
 use Rattle.coding.proofs.labels.symbol_halves.Goals as goal

@@ -1,6 +1,6 @@
 -- `decode_symbol`: before each turn, the encoders passed are inverted.
 use mathlib.Core.Path.{refl}
-use Prim.Native.Nat.{◌-◌, ◌≤◌}
+use Prim.Native.Nat.{◌≤◌}
 use native.Mathlib.Omega.{arith}
 use borrow.Author.Rules.{rules}
 use Rattle.chain.proofs.Counts.{encoders_some, encoders_most}

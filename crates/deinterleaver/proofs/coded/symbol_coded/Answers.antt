@@ -1,5 +1,4 @@
 -- `symbol_coded` places the label bits stream by stream.
-use Prim.Native.Nat.{◌-◌}
 use borrow.Author.Rules.{rules}
 use Rattle.deinterleaver.proofs.PlaceLaws.{placed_more}
 use Rattle.deinterleaver.proofs.coded.symbol_coded.Goals as goal

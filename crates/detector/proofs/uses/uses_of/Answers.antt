@@ -1,5 +1,4 @@
 -- `uses_of` numbers the places run by run.
-use Prim.Native.Nat.{◌-◌}
 use native.Mathlib.Omega.{arith}
 use Rattle.detector.proofs.UseLaws.{part_more, part_all}
 use Rattle.detector.proofs.uses.uses_of.Goals as goal

@@ -1,5 +1,4 @@
 -- `decode_encoder`: before each group, the inputs forced so far are put and the wrong first bits are counted.
-use Prim.Native.Nat.{◌-◌}
 use native.Mathlib.Omega.{arith}
 use Rattle.forcing.proofs.StepLaws.{sum_by}
 use Rattle.forcing.proofs.GroupLaws.{none, turn, group_bit, group_asked, group_done, counted, next_bit, next_place, all_done}

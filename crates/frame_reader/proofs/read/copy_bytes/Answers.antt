@@ -1,6 +1,5 @@
 -- `copy_bytes`: before each turn, the bytes passed are the other slice's.
 use mathlib.Core.Path.{refl}
-use Prim.Native.Nat.{◌-◌}
 use native.Mathlib.Omega.{arith}
 use Rattle.laws.proofs.Filling.{fill_none, fill_more, fill_end}
 use Rattle.frame_reader.proofs.read.copy_bytes.Goals as goal

@@ -1,11 +1,7 @@
 -- `read_into`: the symbols are read into bytes apart, and copied where all are accepted.
-use mathlib.Core.Path.{ap}
-use mathlib.Core.Logic.{⊎_elim}
 use Prim.Native.Nat.{◌≤◌}
 use native.Mathlib.Omega.{arith}
-use denote.Enum.Declared.{tag_of}
 use lib.ListN.{length}
-use Rattle.frame_steps.specs.contracts.steps.FrameAnswer.{the_type}
 use Rattle.frame_reader.proofs.ApartLaws.{asked_right, size_holds, symbols_asked, left_refused, left_read}
 use Rattle.frame_reader.proofs.read.read_into.Goals as goal
 

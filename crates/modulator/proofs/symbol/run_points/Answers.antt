@@ -1,5 +1,4 @@
 -- `run_points` puts one carrier's point a turn.
-use Prim.Native.Nat.{◌-◌}
 use native.Mathlib.Omega.{arith}
 use Rattle.modulator.proofs.RunningLaws.{run_more}
 use Rattle.modulator.proofs.symbol.run_points.Goals as goal

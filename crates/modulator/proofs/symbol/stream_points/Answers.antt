@@ -1,6 +1,5 @@
 -- `stream_points` writes the stream run by run.
 use mathlib.Core.Path.{◌∙◌}
-use Prim.Native.Nat.{◌-◌}
 use native.Mathlib.Omega.{arith}
 use Rattle.modulator.proofs.RunningLaws.{part_more, part_end}
 use Rattle.modulator.proofs.symbol.stream_points.Goals as goal

@@ -4,7 +4,6 @@ use mathlib.Core.Bool.{true, ◌&&◌}
 use Prim.Native.Nat.{◌+◌, ◌-◌}
 use lib.Dec.{eqb}
 use lib.ListN.{length}
-use borrow.Author.Tests.{not-true, not-false}
 use Rattle.parsing.specs.Parsing.{separated_at, one_to_five}
 use Rattle.parsing.proofs.Grammar.{third_by, no_first, no_second, no_third, all_three}
 use Rattle.parsing.proofs.numbers.parse.Goals as goal

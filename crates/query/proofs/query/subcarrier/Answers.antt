@@ -1,6 +1,5 @@
 -- `subcarrier` goes by the tests of its refusals; where none applies, it answers what is carried.
 use mathlib.Core.Path.{◌≡◌, ◌∙◌, sym, ap}
-use mathlib.Core.Bool.{false}
 use mir.Facts.{to_z-of_z}
 use Rattle.settings.specs.Settings.{check_of}
 use Rattle.settings.specs.declared.settings.Checked.TheVariants.{Accepted}

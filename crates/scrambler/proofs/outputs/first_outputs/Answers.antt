@@ -1,6 +1,5 @@
 -- `first_outputs` stores one output a turn and steps on.
 use mathlib.Core.Path.{◌∙◌, sym, ap}
-use Prim.Native.Nat.{◌-◌}
 use native.Mathlib.Omega.{arith}
 use borrow.Author.Rules.{rules}
 use Rattle.laws.proofs.Filling.{fill_none, fill_more}

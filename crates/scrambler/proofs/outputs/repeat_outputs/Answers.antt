@@ -1,5 +1,4 @@
 -- `repeat_outputs` copies one output a turn, from a period before it.
-use Prim.Native.Nat.{◌-◌}
 use native.Mathlib.Omega.{arith}
 use borrow.Author.Rules.{rules}
 use Rattle.laws.proofs.Filling.{fill_more, fill_end}

@@ -1,5 +1,4 @@
 -- `run_at` looks for the first run that begins behind the place; the one before it holds it.
-use Prim.Native.Nat.{◌-◌}
 use native.Mathlib.Omega.{arith}
 use Rattle.subcarriers.proofs.RunLaws.{runs_some, begins, held, held_last}
 use Rattle.subcarriers.proofs.layout.run_at.Goals as goal

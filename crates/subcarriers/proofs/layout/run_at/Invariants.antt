@@ -2,7 +2,6 @@
 use mathlib.Core.Path.{◌≡◌}
 use Prim.Native.Nat.{◌-◌, ◌≤◌}
 use Rattle.subcarriers.specs.Runs.{run_of}
-use Rattle.subcarriers.proofs.RunLaws.{begins}
 use Rattle.subcarriers.proofs.layout.run_at.Given as goal
 
 -- the run before the one that is looked at begins at f or before
