@@ -124,6 +124,9 @@ static void expect_step(int64_t got, int64_t number, int64_t seed, int64_t state
     expect(ht_step_number(got), number, what);
     expect(ht_step_seed(got), seed, what);
     expect((int64_t)ht_step_state(got), state, what);
+    expect(HT_STEP_NUMBER(got), number, what);
+    expect(HT_STEP_SEED(got), seed, what);
+    expect((int64_t)HT_STEP_STATE(got), state, what);
 }
 
 static void check_reader(void) {

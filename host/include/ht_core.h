@@ -251,6 +251,11 @@ static inline int ht_step_number(int64_t step) { return HT_CAST(int, step & 31);
 static inline uint32_t ht_step_seed(int64_t step) { return HT_CAST(uint32_t, step >> 5 & 127); }
 static inline uint64_t ht_step_state(int64_t step) { return HT_CAST(uint64_t, step >> 12); }
 
+/* The same three as macros. */
+#define HT_STEP_NUMBER(step) ((uint32_t)((step) & 31))
+#define HT_STEP_SEED(step) ((uint32_t)((step) >> 5 & 127))
+#define HT_STEP_STATE(step) ((uint64_t)(step) >> 12)
+
 /* The place of the first point for which a step from this state gives 9, or HT_NO_PLACE where every point passes.
  * Refusals in order: 12, 8 (floats only). */
 HT_CALL int64_t ht_reader_place(uint32_t width, uint32_t mcs, uint32_t format, uint32_t length,

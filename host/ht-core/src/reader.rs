@@ -211,11 +211,11 @@ impl ReadRefusal {
     }
 }
 
-/// Where it is, then the refusal with its reason; by `{:#}` in short, `refusal 9 POINT at stream 1, subcarrier -7`.
+/// The refusal and where it is, `refusal 9 POINT at stream 1, subcarrier -7`; by `{:#}` where it is, and then the refusal with its reason.
 impl fmt::Display for ReadRefusal {
     fn fmt(&self, f: &mut fmt::Formatter<'_>) -> fmt::Result {
-        if f.alternate() {
-            write!(f, "{:#}", self.refusal())?;
+        if !f.alternate() {
+            write!(f, "{}", self.refusal())?;
             return match self {
                 ReadRefusal::Room { reader } => write!(f, " before symbol {}", reader.symbol()),
                 ReadRefusal::Point { stream, subcarrier } => {
@@ -231,7 +231,7 @@ impl fmt::Display for ReadRefusal {
             }
             ReadRefusal::Code | ReadRefusal::Frame => {}
         }
-        write!(f, "{}", self.refusal())
+        write!(f, "{:#}", self.refusal())
     }
 }
 

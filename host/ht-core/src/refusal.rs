@@ -11,7 +11,8 @@ macro_rules! refusals {
         /// ```
         /// use ht_core::Refusal;
         ///
-        /// assert_eq!(Refusal::Mcs.to_string(), "the MCS is over 31 (refusal 2 MCS)");
+        /// assert_eq!(Refusal::Mcs.to_string(), "refusal 2 MCS");
+        /// assert_eq!(format!("{:#}", Refusal::Mcs), "the MCS is over 31 (refusal 2 MCS)");
         /// assert_eq!(Refusal::try_from(2), Ok(Refusal::Mcs));
         /// assert_eq!(u32::from(Refusal::Mcs), 2);
         /// ```
@@ -86,14 +87,14 @@ impl TryFrom<u32> for Refusal {
     }
 }
 
-/// The reason, then number and name; by `{:#}` number and name alone, `refusal 2 MCS`.
+/// Number and name, `refusal 2 MCS`; by `{:#}` the reason before them, `the MCS is over 31 (refusal 2 MCS)`.
 impl fmt::Display for Refusal {
     fn fmt(&self, f: &mut fmt::Formatter<'_>) -> fmt::Result {
         let (reason, number, name) = (self.reason(), self.number(), self.name());
         if f.alternate() {
-            write!(f, "refusal {number} {name}")
-        } else {
             write!(f, "{reason} (refusal {number} {name})")
+        } else {
+            write!(f, "refusal {number} {name}")
         }
     }
 }

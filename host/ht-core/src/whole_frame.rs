@@ -69,7 +69,7 @@ pub enum FrameRefusal {
 /// let mut payload = [0; 11];
 /// let refused = read_frame(s, &frame, &mut payload).unwrap_err();
 /// assert_eq!(refused, FrameRefusal::Point { symbol: 2, stream: 0, subcarrier: -28 });
-/// assert!(refused.to_string().starts_with("symbol 2, stream 0, subcarrier -28: a point or a pilot is not one"));
+/// assert!(format!("{refused:#}").starts_with("symbol 2, stream 0, subcarrier -28: a point or a pilot is not one"));
 /// assert_eq!(payload, [0; 11]);
 /// assert_eq!(read_frame(s, &frame[1..], &mut payload), Err(FrameRefusal::Room));
 /// # Ok::<(), ht_core::Refusal>(())
@@ -148,11 +148,11 @@ impl FrameRefusal {
     }
 }
 
-/// Where it is, then the refusal with its reason; by `{:#}` in short, `refusal 10 CODE in symbol 2`.
+/// The refusal and where it is, `refusal 10 CODE in symbol 2`; by `{:#}` where it is, and then the refusal with its reason.
 impl fmt::Display for FrameRefusal {
     fn fmt(&self, f: &mut fmt::Formatter<'_>) -> fmt::Result {
-        if f.alternate() {
-            write!(f, "{:#}", self.refusal())?;
+        if !f.alternate() {
+            write!(f, "{}", self.refusal())?;
             return match self {
                 FrameRefusal::Settings(_) | FrameRefusal::Room => Ok(()),
                 FrameRefusal::Point {
@@ -182,7 +182,7 @@ impl fmt::Display for FrameRefusal {
                 write!(f, "symbol {symbol}: ")?
             }
         }
-        write!(f, "{}", self.refusal())
+        write!(f, "{:#}", self.refusal())
     }
 }
 

@@ -30,7 +30,7 @@ fn played(settings: Settings, payload: &[u8]) -> Vec<u8> {
 }
 
 fn read(settings: Settings, bytes: &[u8]) -> Result<(u32, Vec<u8>), String> {
-    read_back(settings, &mut &*bytes).map_err(|error| error.to_string())
+    read_back(settings, &mut &*bytes).map_err(|error| format!("{error:#}"))
 }
 
 #[test]
@@ -70,9 +70,9 @@ fn a_file_that_is_no_frame_is_refused() {
     let mut changed = file.clone();
     assert_eq!(changed[last], 0);
     changed[last] = 0x80;
-    let refused = Err(format!("stream 0, subcarrier 28: {}", Refusal::Point));
+    let refused = Err(format!("stream 0, subcarrier 28: {:#}", Refusal::Point));
     assert_eq!(read(settings, &changed), refused);
-    let in_short = read_back(settings, &mut &*changed).map_err(|error| format!("{error:#}"));
+    let in_short = read_back(settings, &mut &*changed).map_err(|error| error.to_string());
     let refused = Err("refusal 9 POINT at stream 0, subcarrier 28".to_string());
     assert_eq!(in_short, refused);
     assert!(read(settings, &file[..last]).is_err());
@@ -85,9 +85,9 @@ fn what_the_core_refuses_is_not_played() {
     let settings = typed_settings(20, 7, 20, &mut draw);
     let refusal = |settings, payload: &[u8]| {
         let error = play(settings, payload, &mut Vec::new()).unwrap_err();
-        (error.to_string(), format!("{error:#}"))
+        (format!("{error:#}"), error.to_string())
     };
-    let words = |refusal: Refusal, in_short: &str| (refusal.to_string(), in_short.to_string());
+    let words = |refusal: Refusal, in_short: &str| (format!("{refusal:#}"), in_short.to_string());
     let mcs_32 = settings.mcs(32);
     let mcs = words(Refusal::Mcs, "refusal 2 MCS");
     assert_eq!(refusal(mcs_32, &[0; 20]), mcs);

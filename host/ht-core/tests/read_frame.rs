@@ -808,21 +808,30 @@ fn typed_settings_and_refusals() {
         assert!(Damage::CodedBit.apply(&frame, 2, &mut damaged[2], &mut draw));
         let code = read_frame(open, &damaged.concat(), &mut payload).unwrap_err();
         assert_eq!(code, FrameRefusal::Code { symbol: 2 });
-        assert_eq!(code.to_string(), format!("symbol 2: {}", Refusal::Code));
-        assert_eq!(format!("{code:#}"), "refusal 10 CODE in symbol 2");
+        assert_eq!(
+            format!("{code:#}"),
+            format!("symbol 2: {:#}", Refusal::Code)
+        );
+        assert_eq!(code.to_string(), "refusal 10 CODE in symbol 2");
 
         let mut damaged = frame.symbols.clone();
         assert!(Damage::TailBit.apply(&frame, 3, &mut damaged[3], &mut draw));
         let form = read_frame(open, &damaged.concat(), &mut payload).unwrap_err();
         assert_eq!(form, FrameRefusal::Frame { symbol: 3 });
-        assert_eq!(form.to_string(), format!("symbol 3: {}", Refusal::Frame));
-        assert_eq!(format!("{form:#}"), "refusal 11 FRAME in symbol 3");
+        assert_eq!(
+            format!("{form:#}"),
+            format!("symbol 3: {:#}", Refusal::Frame)
+        );
+        assert_eq!(form.to_string(), "refusal 11 FRAME in symbol 3");
 
         let mcs = open.mcs(32);
         let settings = read_frame(mcs, &points, &mut payload).unwrap_err();
         assert_eq!(settings, FrameRefusal::Settings(Refusal::Mcs));
-        assert_eq!(settings.to_string(), "the MCS is over 31 (refusal 2 MCS)");
-        assert_eq!(format!("{settings:#}"), "refusal 2 MCS");
+        assert_eq!(
+            format!("{settings:#}"),
+            "the MCS is over 31 (refusal 2 MCS)"
+        );
+        assert_eq!(settings.to_string(), "refusal 2 MCS");
         assert!(payload == frame.payload);
     }
 }
@@ -835,11 +844,14 @@ fn refusals_in_words() {
         subcarrier: -7,
     };
     let words = "symbol 12, stream 1, subcarrier -7: a point or a pilot is not one that the rules give at its place (refusal 9 POINT)";
-    assert_eq!(point.to_string(), words);
-    assert_eq!(FrameRefusal::Room.to_string(), Refusal::Room.to_string());
-    let words = "refusal 9 POINT in symbol 12 at stream 1, subcarrier -7";
     assert_eq!(format!("{point:#}"), words);
-    assert_eq!(format!("{:#}", FrameRefusal::Room), "refusal 8 ROOM");
+    assert_eq!(
+        format!("{:#}", FrameRefusal::Room),
+        format!("{:#}", Refusal::Room)
+    );
+    let words = "refusal 9 POINT in symbol 12 at stream 1, subcarrier -7";
+    assert_eq!(point.to_string(), words);
+    assert_eq!(FrameRefusal::Room.to_string(), "refusal 8 ROOM");
     let all = [
         (FrameRefusal::Settings(Refusal::Length), 4, None),
         (FrameRefusal::Room, 8, None),

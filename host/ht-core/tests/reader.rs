@@ -940,7 +940,9 @@ fn a_typed_reader_refuses() {
 
 #[test]
 fn a_typed_reader_is_not_started_with_refused_settings() {
-    let good = OpenSettings::new(Width::Mhz20, 31, 65_535);
+    let good = OpenSettings::new(Width::Mhz20, 31, 65_535)
+        .smoothing(false)
+        .not_sounding(false);
     assert!(Reader::start(good).is_ok());
     let mcs = good.mcs(32);
     assert_eq!(Reader::start(mcs), Err(Refusal::Mcs));
@@ -964,19 +966,28 @@ fn refusals_in_words() {
         subcarrier: -7,
     };
     assert_eq!(
-        point.to_string(),
+        format!("{point:#}"),
         "stream 1, subcarrier -7: a point or a pilot is not one that the rules give at its place (refusal 9 POINT)"
     );
-    assert_eq!(ReadRefusal::Code.to_string(), Refusal::Code.to_string());
-    assert_eq!(ReadRefusal::Frame.to_string(), Refusal::Frame.to_string());
     assert_eq!(
-        format!("{point:#}"),
+        format!("{:#}", ReadRefusal::Code),
+        format!("{:#}", Refusal::Code)
+    );
+    assert_eq!(
+        format!("{:#}", ReadRefusal::Frame),
+        format!("{:#}", Refusal::Frame)
+    );
+    assert_eq!(
+        point.to_string(),
         "refusal 9 POINT at stream 1, subcarrier -7"
     );
-    assert_eq!(format!("{:#}", ReadRefusal::Code), "refusal 10 CODE");
-    assert_eq!(format!("{:#}", ReadRefusal::Frame), "refusal 11 FRAME");
+    assert_eq!(ReadRefusal::Code.to_string(), "refusal 10 CODE");
+    assert_eq!(ReadRefusal::Frame.to_string(), "refusal 11 FRAME");
     let reader = Reader::start(GOOD).unwrap();
     let room = reader.step(&[], &mut [0]).unwrap_err();
-    assert_eq!(room.to_string(), format!("symbol 0: {}", Refusal::Room));
-    assert_eq!(format!("{room:#}"), "refusal 8 ROOM before symbol 0");
+    assert_eq!(
+        format!("{room:#}"),
+        format!("symbol 0: {:#}", Refusal::Room)
+    );
+    assert_eq!(room.to_string(), "refusal 8 ROOM before symbol 0");
 }

@@ -34,7 +34,8 @@ fn each_says_its_reason_and_its_number() {
     for refusal in Refusal::ALL {
         let (number, name) = (refusal.number(), refusal.name());
         let words = format!("{} (refusal {number} {name})", refusal.reason());
-        assert_eq!(refusal.to_string(), words);
+        assert_eq!(format!("{refusal:#}"), words);
+        assert_eq!(refusal.to_string(), format!("refusal {number} {name}"));
         assert_eq!(Refusal::try_from(number), Ok(*refusal));
         assert_eq!(u32::from(*refusal), number);
         assert!(refusal.source().is_none());
@@ -86,7 +87,7 @@ fn reading_refusals_have_a_refusal_as_source() {
     ];
     for (step, (place, refusal)) in steps.iter().zip(wants) {
         assert_eq!((source(step), step.refusal()), (refusal, refusal));
-        assert_eq!(step.to_string(), format!("{place}{refusal}"));
+        assert_eq!(format!("{step:#}"), format!("{place}{refusal:#}"));
     }
 
     let point = FrameRefusal::Point {
@@ -115,7 +116,7 @@ fn reading_refusals_have_a_refusal_as_source() {
     ];
     for (frame, place, refusal) in frames {
         assert_eq!((source(&frame), frame.refusal()), (refusal, refusal));
-        assert_eq!(frame.to_string(), format!("{place}{refusal}"));
+        assert_eq!(format!("{frame:#}"), format!("{place}{refusal:#}"));
     }
     let refused = read_frame(open.mcs(32), &[], &mut []).unwrap_err();
     assert_eq!(source(&refused), Refusal::Mcs);
