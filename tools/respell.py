@@ -4,9 +4,9 @@
 usage: tools/respell.py            at the top of the repository, once, after port.py
        tools/respell.py --check    writes nothing, and prints the names that fall together
 
-A name that a file of specs/ or proofs/ declares, with a small first letter, is respelled wherever it stands as a whole word in specs/, proofs/
-and the clauses of src/: 'planOf' is 'plan_of', 'runs-right' is 'runs_right'. Types, modules, operators and the kit's names stay. Names of goals
-and steps, which the kit makes, are no declared names of these and stay.
+A name that a file of specs/ or proofs/ declares, with a small first letter, is respelled wherever it stands as a whole word in specs/,
+proofs/ and the clauses of src/: 'planOf' is 'plan_of', 'runs-right' is 'runs_right'. Types, modules, operators and the kit's names stay.
+Names of goals and steps, which the kit makes, are no declared names of these and stay.
 """
 import collections
 import os

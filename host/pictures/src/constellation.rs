@@ -1,7 +1,9 @@
 //! One symbol's constellation, a panel for each stream.
 
 use crate::frame::{Carrier, Frame, Refusal, Width};
-use crate::panel::{draw_caption, draw_head, draw_legend, legend_place, Panel, PAGE_OF_FOUR};
+use crate::panel::{
+    draw_caption, draw_head, draw_legend, legend_place, Panel, LEVELS, PAGE_OF_FOUR,
+};
 use crate::svg::{diamond, Place, Svg};
 
 const STREAMS: u32 = 4;
@@ -42,7 +44,7 @@ impl Stream {
         let panel = Panel::of_four(number);
         let (data, pilots) = (self.data.len(), self.pilots.len());
         let heading = format!("stream {number}: {data} data points, {pilots} pilots");
-        panel.draw_axes(svg, &heading);
+        panel.draw_axes(svg, &heading, LEVELS);
         svg.group(DATA, |svg| draw_repeated(svg, &panel, &self.data, dot));
         svg.group(PILOT, |svg| {
             draw_repeated(svg, &panel, &self.pilots, small_diamond)

@@ -5,6 +5,7 @@ mod chain;
 mod constellation;
 mod crates_list;
 mod frame;
+mod label_points;
 mod labels;
 mod layers;
 mod modulations;
@@ -22,11 +23,15 @@ pub struct Picture {
 }
 
 /// All pictures by the names of their files, the same bytes at every call.
-pub fn draw_all() -> Result<[Picture; 5], Box<dyn Error>> {
+pub fn draw_all() -> Result<[Picture; 6], Box<dyn Error>> {
     Ok([
         Picture {
             file: "constellation.svg",
             svg: constellation::draw()?,
+        },
+        Picture {
+            file: "labels.svg",
+            svg: label_points::draw()?,
         },
         Picture {
             file: "layers.svg",

@@ -12,6 +12,9 @@ pub const DOWN: f64 = 84.0;
 /// Two equal panels in each of two rows, and two lines below.
 pub const PAGE_OF_FOUR: (u32, u32) = (864, 1046);
 
+/// The names of the two axes of levels.
+pub const LEVELS: [&str; 2] = ["first level", "second level"];
+
 pub struct Panel {
     centre: Place,
     /// Pixels from one level to the next.
@@ -60,7 +63,8 @@ impl Panel {
         )
     }
 
-    pub fn draw_axes(&self, svg: &mut Svg, heading: &str) {
+    /// The axes with their names, the one to the right first.
+    pub fn draw_axes(&self, svg: &mut Svg, heading: &str, [right, up]: [&str; 2]) {
         let ((x, y), half) = (self.centre, self.half());
         let levels = || (-self.outermost..=self.outermost).step_by(2);
         let grid = levels().flat_map(|level| {
@@ -84,8 +88,8 @@ impl Panel {
             svg.text((x + at, y + half + 17.0), 12, Anchor::Middle, &number);
             svg.text((x - half - 6.0, y - at + 4.0), 12, Anchor::End, &number);
         }
-        svg.text((x, y + half + 36.0), 13, Anchor::Middle, "I (first level)");
-        svg.upward_text((x - half - 32.0, y), 13, "Q (second level)");
+        svg.text((x, y + half + 36.0), 13, Anchor::Middle, right);
+        svg.upward_text((x - half - 32.0, y), 13, up);
     }
 }
 
@@ -122,7 +126,7 @@ pub mod tests {
     fn a_point_stands_at_its_levels_numbers() {
         let panel = Panel::of_four(3);
         let mut svg = Svg::new(PAGE_OF_FOUR, "");
-        panel.draw_axes(&mut svg, "");
+        panel.draw_axes(&mut svg, "", LEVELS);
         let svg = svg.finish();
         let (x, y) = panel.place(7.0, 7.0);
         assert!(x > panel.centre.0 && y < panel.centre.1);
