@@ -27,10 +27,8 @@ fn copy_bits(line: &mut [u8], plain: &[u8], to: usize, from: usize, count: usize
     requires { CopyAsked line.old plain.now to from count }
     ensures { Filled 0 to (λ t. get_or plain.now (from + t) 0) count line.old line.new }
 {
-    let mut t: usize = 0;
-    while t < count {
+    for t in 0..count {
         line[to + t] = plain[from + t];
-        t += 1;
     }
 }
 
@@ -69,10 +67,8 @@ fn put_bytes(payload: &mut [u8], line: &[u8], first: usize, count: usize)
     requires { BytesAsked payload.old line.now first count }
     ensures { Filled 0 first (λ k. bits_number (λ j. get_or line.now j 0) (8 * k) 8) count payload.old payload.new }
 {
-    let mut k: usize = 0;
-    while k < count {
+    for k in 0..count {
         payload[first + k] = pack(line, 8 * k);
-        k += 1;
     }
 }
 

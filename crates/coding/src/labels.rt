@@ -49,10 +49,8 @@ fn run(
     requires { HalfRunAsked halves.old coded.now table.now s shift to from count }
     ensures { Filled 0 to (λ m. half_at coded.now table.now s shift (from + m)) count halves.old halves.new }
 {
-    let mut m: usize = 0;
-    while m < count {
+    for m in 0..count {
         halves[to + m] = half(coded, table, s, shift, from + m);
-        m += 1;
     }
 }
 
@@ -96,10 +94,8 @@ fn symbol_halves(halves: &mut [u8], coded: &[u8], plan: Plan)
     let mut table = [0u16; MOST_BLOCK];
     label_sources(&mut table, plan);
     let streams = plan.streams;
-    let mut i: usize = 0;
-    while i < streams {
+    for i in 0..streams {
         stream_halves(halves, coded, &table, plan, i);
-        i += 1;
     }
 }
 

@@ -24,10 +24,8 @@ fn put_bytes(raw: &mut [u8], payload: &[u8], to: usize, from: usize, count: usiz
     requires { (8 * (to + count) ≤ length raw.old) × (to + count ≤ 273) × (from + count ≤ length payload.now) × (from ≤ 65535) }
     ensures { Filled 0 (8 * to) (λ k. payload_bit payload.now (8 * from + k)) (8 * count) raw.old raw.new }
 {
-    let mut m: usize = 0;
-    while m < count {
+    for m in 0..count {
         put_byte(raw, 8 * (to + m), payload[from + m]);
-        m += 1;
     }
 }
 

@@ -32,8 +32,7 @@ fn decode_symbol(
 {
     let mut after = histories;
     let mut wrong: usize = 0;
-    let mut j: usize = 0;
-    while j < encoders {
+    for j in 0..encoders {
         let forced = decode_encoder(
             inputs,
             coded,
@@ -46,7 +45,6 @@ fn decode_symbol(
         );
         after[j] = forced.history;
         wrong += forced.wrong;
-        j += 1;
     }
     Decoded {
         histories: after,

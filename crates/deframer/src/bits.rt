@@ -34,10 +34,8 @@ fn take_off(plain: &mut [u8], inputs: &[u8], outputs: &[u8], count: usize)
     requires { TakeOffAsked plain.old inputs.now outputs.now count }
     ensures { Filled 0 0 (λ d. bit_xor (get_or inputs.now d 0) (get_or outputs.now d 0)) count plain.old plain.new }
 {
-    let mut d: usize = 0;
-    while d < count {
+    for d in 0..count {
         plain[d] = inputs[d] ^ outputs[d];
-        d += 1;
     }
 }
 
@@ -63,10 +61,8 @@ fn nonzero(bits: &[u8], from: usize, to: usize) -> usize
     ensures { Counted (λ d. get_or bits.now d 0) from to result × (result ≤ 550800) }
 {
     let mut total: usize = 0;
-    let mut d = from;
-    while d < to {
+    for d in from..to {
         total += bit_count(bits[d]);
-        d += 1;
     }
     total
 }

@@ -21,11 +21,9 @@ fn put_run(
     requires { CodedRunAsked coded.old bits.now table.now shift from first count }
     ensures { Scattered 0 (λ k. get_or table.now (first + k) 0 + shift) (λ k. get_or bits.now (from + k) 0) count coded.old coded.new }
 {
-    let mut r: usize = 0;
-    while r < count {
+    for r in 0..count {
         let at = source_index(table[first + r]) + shift;
         coded[at] = bits[from + r];
-        r += 1;
     }
 }
 
@@ -51,9 +49,7 @@ pub fn symbol_coded(coded: &mut [u8], bits: &[u8], plan: Plan)
     let mut table = [0u16; MOST_BLOCK];
     label_sources(&mut table, plan);
     let streams = plan.streams;
-    let mut i: usize = 0;
-    while i < streams {
+    for i in 0..streams {
         stream_coded(coded, bits, &table, plan, i);
-        i += 1;
     }
 }

@@ -83,10 +83,8 @@ fn put_label(out: &mut [u8], at: usize, s: usize, label: u8)
     requires { (s ≤ 3) × (at + s ≤ length out.old) }
     ensures { Filled 0 at (bit_of_label s label) s out.old out.new }
 {
-    let mut t: usize = 0;
-    while t < s {
+    for t in 0..s {
         out[at + t] = (label >> (s - 1 - t)) % 2;
-        t += 1;
     }
 }
 

@@ -67,21 +67,14 @@ pub fn symbol_bits(bits: &mut [u8], points: &[f32], plan: Plan, format: usize, n
     let uses = uses_of(plan.width);
     let polarity = polarity_bit(format, n);
     let places = places_of(plan.width);
-    let streams = plan.streams;
-    let mut i: usize = 0;
-    'streams: loop {
-        if i >= streams {
-            break 'streams Search::AllGiven;
-        }
-        let mut f: usize = 0;
-        while f < places {
-            if hear_place(
+    for i in 0..plan.streams {
+        for f in 0..places {
+            if !hear_place(
                 bits, points, &levels, &labels, &uses, plan, s, polarity, n, i, f,
-            ) {} else {
-                break 'streams Search::At(i, f);
+            ) {
+                return Search::At(i, f);
             }
-            f += 1;
         }
-        i += 1;
     }
+    Search::AllGiven
 }

@@ -30,10 +30,8 @@ fn sums_a(sums: &mut [u8], line: &[u8], encoders: usize, count: usize)
     requires { SumsAsked sums.old line.now encoders count }
     ensures { Filled 0 0 (λ j. xor_a (λ e. get_or line.now e 0) encoders j) count sums.old sums.new }
 {
-    let mut j: usize = 0;
-    while j < count {
+    for j in 0..count {
         sums[j] = sum_a(line, encoders, j);
-        j += 1;
     }
 }
 
@@ -41,10 +39,8 @@ fn sums_b(sums: &mut [u8], line: &[u8], encoders: usize, count: usize)
     requires { SumsAsked sums.old line.now encoders count }
     ensures { Filled 0 2160 (λ j. xor_b (λ e. get_or line.now e 0) encoders j) count sums.old sums.new }
 {
-    let mut j: usize = 0;
-    while j < count {
+    for j in 0..count {
         sums[2160 + j] = sum_b(line, encoders, j);
-        j += 1;
     }
 }
 

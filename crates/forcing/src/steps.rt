@@ -92,18 +92,16 @@ pub fn decode_encoder(
 {
     let stride = (kept - 1) * encoders;
     let mut h = history;
-    let mut g: usize = 0;
     let mut i = base;
     let mut to = j;
     let mut bad: usize = 0;
-    while g < groups {
+    for g in 0..groups {
         let b = sum_after(1, h, coded[i + 1]);
         let a = sum_after(0, h, b);
         bad += differ(coded[i], a);
         h = group(inputs, coded, h, kept, encoders, to, i);
         i += kept;
         to += stride;
-        g += 1;
     }
     Forced {
         history: h,

@@ -17,10 +17,8 @@ fn copy_bytes(to: &mut [u8], from: &[u8], count: usize)
     requires { (count ≤ length to.old) × (count ≤ length from.now) }
     ensures { Filled 0 0 (λ k. get_or from.now k 0) count to.old to.new }
 {
-    let mut i: usize = 0;
-    while i < count {
+    for i in 0..count {
         to[i] = from[i];
-        i += 1;
     }
 }
 

@@ -24,10 +24,8 @@ fn add_outputs(
     requires { AddAsked line.old raw.now outputs.now to at from count }
     ensures { Filled 0 to (λ t. bit_xor (get_or raw.now (at + t) 0) (get_or outputs.now (from + t) 0)) count line.old line.new }
 {
-    let mut t: usize = 0;
-    while t < count {
+    for t in 0..count {
         line[to + t] = raw[at + t] ^ outputs[from + t];
-        t += 1;
     }
 }
 
@@ -36,10 +34,8 @@ fn clear(line: &mut [u8], to: usize, count: usize)
     requires { (to + count ≤ length line.old) × (to + count ≤ 2172) }
     ensures { Filled 0 to (λ t. 0) count line.old line.new }
 {
-    let mut t: usize = 0;
-    while t < count {
+    for t in 0..count {
         line[to + t] = 0;
-        t += 1;
     }
 }
 

@@ -45,14 +45,12 @@ fn run_points(
     requires { RunAsked out.old halves.now table.now bits from to carrier count }
     ensures { Filled nan to (λ g. whole (run_level halves.now bits from carrier turned g)) (2 * count) out.old out.new }
 {
-    let mut k: usize = 0;
-    while k < count {
+    for k in 0..count {
         put_point(
             out,
             to + 2 * k,
             sent_point(halves, table, bits, from, carrier + k, turned),
         );
-        k += 1;
     }
 }
 
@@ -118,10 +116,8 @@ fn stream_points(
     ensures { StreamFilled plan halves.now polarity n i base from out.old out.new }
 {
     let runs = runs_of(plan.width);
-    let mut r: usize = 0;
-    while r < runs {
+    for r in 0..runs {
         segment_points(out, halves, table, plan, polarity, n, i, base, from, r);
-        r += 1;
     }
 }
 
@@ -136,8 +132,7 @@ pub fn symbol_points(out: &mut [f32], halves: &[u8], plan: Plan, format: usize, 
     let count = plan.block / s;
     let floats = 2 * places_of(plan.width);
     let streams = plan.streams;
-    let mut i: usize = 0;
-    while i < streams {
+    for i in 0..streams {
         stream_points(
             out,
             halves,
@@ -149,6 +144,5 @@ pub fn symbol_points(out: &mut [f32], halves: &[u8], plan: Plan, format: usize, 
             i * floats,
             i * count,
         );
-        i += 1;
     }
 }

@@ -44,10 +44,8 @@ fn value_in(line: &[u8], from: usize, to: usize) -> u64
     ensures { result ≡ decimal_value (take (to - from) (drop from line.now)) }
 {
     let mut value: u64 = 0;
-    let mut i = from;
-    while i < to {
+    for i in from..to {
         value = 10 * value + digit_value(line[i]);
-        i += 1;
     }
     value
 }

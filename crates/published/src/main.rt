@@ -31,10 +31,8 @@ fn print_bits<W: Write>(out: &mut W, bits: &[u8], from: usize, count: usize) -> 
     ensures { OnOk result (Appends (W.contents out.old) (W.contents out.new)
         (map (λ b. 48 + b % 2) (take count (drop from bits.now)) ++ 10 ∷ [])) }
 {
-    let mut i: usize = 0;
-    while i < count {
+    for i in 0..count {
         out.write_all(&digit(bits[from + i]))?;
-        i += 1;
     }
     out.write_all(b"\n")
 }

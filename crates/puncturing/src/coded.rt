@@ -27,10 +27,8 @@ fn sum_places(places: &mut [u16], kept: u16, encoders: u16, count: u16)
     requires { PlacesAsked places.old kept encoders count }
     ensures { Filled 0 0 (λ y. sum_place kept encoders y) count places.old places.new }
 {
-    let mut y: u16 = 0;
-    while y < count {
+    for y in 0..count {
         places[y as usize] = sum_place(kept, encoders, y);
-        y += 1;
     }
 }
 
@@ -39,10 +37,8 @@ fn pick(coded: &mut [u8], sums: &[u8], places: &[u16], to: usize, j: usize, coun
     requires { PickAsked coded.old sums.now places.now to j count }
     ensures { Filled 0 to (λ y. get_or sums.now (get_or places.now y 0 + j) 0) count coded.old coded.new }
 {
-    let mut y: usize = 0;
-    while y < count {
+    for y in 0..count {
         coded[to + y] = sums[places[y] as usize + j];
-        y += 1;
     }
 }
 

@@ -108,12 +108,10 @@ fn power(r: usize) -> u8
 fn bad_histories(histories: [u8; 2]) -> bool
     ensures { result ≡ bad_histories histories }
 {
-    let mut j: usize = 0;
-    while j < 2 {
+    for j in 0..2 {
         if histories[j] >= 64 {
             return true;
         }
-        j += 1;
     }
     false
 }

@@ -11,11 +11,9 @@ fn first_outputs(outputs: &mut [u8], state: u8, count: usize)
     ensures { Filled 0 0 (λ t. scrambler_bit state t) count outputs.old outputs.new }
 {
     let mut now_at = state;
-    let mut t: usize = 0;
-    while t < count {
+    for t in 0..count {
         outputs[t] = output_of(now_at);
         now_at = step(now_at);
-        t += 1;
     }
 }
 
@@ -24,10 +22,8 @@ fn repeat_outputs(outputs: &mut [u8], count: usize)
     requires { (count ≤ length outputs.old) × (127 ≤ count) }
     ensures { Filled 0 127 (λ t. get_or outputs.old (t % 127) 0) (count - 127) outputs.old outputs.new }
 {
-    let mut t: usize = 127;
-    while t < count {
+    for t in 127..count {
         outputs[t] = outputs[t - 127];
-        t += 1;
     }
 }
 

@@ -19,11 +19,9 @@ pub fn crc(head: u64) -> u64
 {
     let mut r: u64 = 255;
     let mut w = head;
-    let mut i: u64 = 0;
-    while i < 34 {
+    for i in 0..34 {
         r = crc_shift(r, w % 2);
         w = w / 2;
-        i += 1;
     }
     r
 }

@@ -54,10 +54,8 @@ fn stream_sources(table: &mut [u16], width: u16, bits: u16, count: u16)
     requires { SourcesAsked table.old width bits count }
     ensures { Filled 0 0 (λ r. source width bits 0 r) count table.old table.new }
 {
-    let mut r: u16 = 0;
-    while r < count {
+    for r in 0..count {
         table[r as usize] = source_of(width, bits, r);
-        r += 1;
     }
 }
 
@@ -89,10 +87,8 @@ fn parse(table: &mut [u16], s: u16, streams: u16, encoders: u16, count: usize)
     requires { ParseAsked table.old s streams encoders count }
     ensures { Filled 0 0 (λ r. coded_slot s streams encoders 0 (get_or table.old r 0)) count table.old table.new }
 {
-    let mut r: usize = 0;
-    while r < count {
+    for r in 0..count {
         table[r] = parsed(s, streams, encoders, table[r]);
-        r += 1;
     }
 }
 

@@ -173,14 +173,12 @@ fn run_at(width: usize, f: usize) -> Run
 {
     let runs = runs_of(width);
     let mut run = run_of(width, 0);
-    let mut r: usize = 1;
-    while r < runs {
+    for r in 1..runs {
         let next = run_of(width, r);
         if f < next.place {
             return run;
         }
         run = next;
-        r += 1;
     }
     run
 }

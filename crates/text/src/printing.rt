@@ -59,11 +59,9 @@ pub fn push_hex(row: Row, bytes: &[u8]) -> Row
     ensures { result ≡ pushed_all row (hex_bytes bytes.now) }
 {
     let mut next = row;
-    let mut i = 0;
-    while i < bytes.len() {
+    for i in 0..bytes.len() {
         let b = bytes[i];
         next = push(push(next, hex_digit(b / 16)), hex_digit(b % 16));
-        i += 1;
     }
     next
 }
@@ -73,10 +71,8 @@ pub fn push_text(row: Row, text: &[u8]) -> Row
     ensures { result ≡ pushed_all row text.now }
 {
     let mut next = row;
-    let mut i = 0;
-    while i < text.len() {
+    for i in 0..text.len() {
         next = push(next, text[i]);
-        i += 1;
     }
     next
 }

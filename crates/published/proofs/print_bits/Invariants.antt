@@ -6,6 +6,3 @@ use Rattle.published.proofs.print_bits.Given as goal
 abbrev pub invariant-loop-i : goal.invariant-loop-i
 invariant-loop-i g l =
     (l.i ≤ l.count) × Appends (g.W.Write.contents l.fn.out) (g.W.Write.contents l.out) (map (λ b. 48 + b % 2) (take l.i (drop l.from l.bits)))
-
-abbrev pub decreases-loop-i : goal.decreases-loop-i
-decreases-loop-i g l = l.count - l.i

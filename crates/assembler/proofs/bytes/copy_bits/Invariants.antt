@@ -6,6 +6,3 @@ use Rattle.assembler.proofs.bytes.copy_bits.Given as goal
 
 abbrev pub invariant-loop-t : goal.invariant-loop-t
 invariant-loop-t l = (l.t ≤ l.count) × Filled 0 l.to (λ k. get_or l.plain (l.from + k) 0) l.t l.initial.line l.line
-
-abbrev pub decreases-loop-t : goal.decreases-loop-t
-decreases-loop-t l = l.count - l.t

@@ -7,6 +7,3 @@ use Rattle.assembler.proofs.bytes.put_bytes.Given as goal
 
 abbrev pub invariant-loop-k : goal.invariant-loop-k
 invariant-loop-k l = (l.k ≤ l.count) × Filled 0 l.first (λ i. bits_number (λ j. get_or l.line j 0) (8 * i) 8) l.k l.initial.payload l.payload
-
-abbrev pub decreases-loop-k : goal.decreases-loop-k
-decreases-loop-k l = l.count - l.k

@@ -6,6 +6,3 @@ use Rattle.coding.proofs.labels.run.Given as goal
 
 abbrev pub invariant-loop-m : goal.invariant-loop-m
 invariant-loop-m l = (l.m ≤ l.count) × Filled 0 l.to (λ k. half_at l.coded l.table l.s l.shift (l.from + k)) l.m l.initial.halves l.halves
-
-abbrev pub decreases-loop-m : goal.decreases-loop-m
-decreases-loop-m l = l.count - l.m

@@ -5,6 +5,3 @@ use Rattle.coding.proofs.labels.symbol_halves.Given as goal
 
 abbrev pub invariant-loop-i : goal.invariant-loop-i
 invariant-loop-i l = (l.i ≤ l.streams) × HalvesFilled l.plan (half_in l.plan l.coded) l.i l.initial.halves l.halves
-
-abbrev pub decreases-loop-i : goal.decreases-loop-i
-decreases-loop-i l = l.streams - l.i

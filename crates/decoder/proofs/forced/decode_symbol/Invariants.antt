@@ -7,6 +7,3 @@ use Rattle.decoder.proofs.forced.decode_symbol.Given as goal
 
 abbrev pub invariant-loop-j : goal.invariant-loop-j
 invariant-loop-j l = Passed (histories_in l.histories) (coded_of l.coded) l.encoders l.kept l.groups l.j l.after l.wrong l.initial.inputs l.inputs
-
-abbrev pub decreases-loop-j : goal.decreases-loop-j
-decreases-loop-j l = l.encoders - l.j

@@ -6,6 +6,3 @@ use Rattle.deframer.proofs.bits.nonzero.Given as goal
 
 abbrev pub invariant-loop-d : goal.invariant-loop-d
 invariant-loop-d l = (l.from ≤ l.d) × (l.d ≤ l.to) × Counted (λ k. get_or l.bits k 0) l.from l.d l.total
-
-abbrev pub decreases-loop-d : goal.decreases-loop-d
-decreases-loop-d l = l.to - l.d

@@ -7,6 +7,3 @@ use Rattle.deframer.proofs.bits.take_off.Given as goal
 
 abbrev pub invariant-loop-d : goal.invariant-loop-d
 invariant-loop-d l = (l.d ≤ l.count) × Filled 0 0 (λ k. bit_xor (get_or l.inputs k 0) (get_or l.outputs k 0)) l.d l.initial.plain l.plain
-
-abbrev pub decreases-loop-d : goal.decreases-loop-d
-decreases-loop-d l = l.count - l.d

@@ -6,6 +6,3 @@ use Rattle.deinterleaver.proofs.coded.put_run.Given as goal
 
 abbrev pub invariant-loop-r : goal.invariant-loop-r
 invariant-loop-r l = (l.r ≤ l.count) × Scattered 0 (λ k. get_or l.table (l.first + k) 0 + l.shift) (λ k. get_or l.bits (l.from + k) 0) l.r l.initial.coded l.coded
-
-abbrev pub decreases-loop-r : goal.decreases-loop-r
-decreases-loop-r l = l.count - l.r

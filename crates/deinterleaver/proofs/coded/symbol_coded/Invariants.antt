@@ -5,6 +5,3 @@ use Rattle.deinterleaver.proofs.coded.symbol_coded.Given as goal
 
 abbrev pub invariant-loop-i : goal.invariant-loop-i
 invariant-loop-i l = (l.i ≤ l.streams) × Placed l.plan l.bits l.i l.initial.coded l.coded
-
-abbrev pub decreases-loop-i : goal.decreases-loop-i
-decreases-loop-i l = l.streams - l.i

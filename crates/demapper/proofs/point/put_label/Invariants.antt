@@ -7,6 +7,3 @@ use Rattle.demapper.proofs.point.put_label.Given as goal
 -- `put_label` stores one bit of the label a turn.
 abbrev pub invariant-loop-t : goal.invariant-loop-t
 invariant-loop-t l = (l.t ≤ l.s) × Filled 0 l.at (bit_of_label l.s l.label) l.t l.initial.out l.out
-
-abbrev pub decreases-loop-t : goal.decreases-loop-t
-decreases-loop-t l = l.s - l.t

@@ -14,13 +14,13 @@ use Rattle.detector.proofs.search.symbol_bits.Goals as goal
 pub hear_place-requires : goal.hear_place-requires
 hear_place-requires c =
     let tables : PointTables c.args.plan.bits c.axis_bits-s.result c.level_keys-levels.result c.label_keys-labels.result = let s = c.axis_bits-s in record { known = c.requires.fits.bits; axis_is = s.ensures; tables = record { axis = subst (λ (k : ℕ). T (among axis_counts k)) (sym s.ensures) (axis_known c.args.plan.bits c.requires.fits.bits); levels_are = c.level_keys-levels.ensures; labels_are = c.label_keys-labels.ensures } } in
-    let heard : PlacesHeard c.args.plan c.args.points.now c.args.format c.args.n c.streams.i c.loop-f.f c.args.bits.now c.loop-f.bits = c.loop-f.invariant.1 c.args.bits.now c.streams.invariant.1 in
+    let heard : PlacesHeard c.args.plan c.args.points.now c.args.format c.args.n c.loop-i.i c.loop-f.f c.args.bits.now c.loop-f.bits = c.loop-f.invariant.1 c.args.bits.now c.loop-i.invariant.1 in
     let inside : c.loop-f.f < places_of c.args.plan.width = omega (arith, c.loop-f-test.true, c.places_of-places.ensures) in
     record {
       fits = c.requires.fits;
       tables = tables;
       numbered = c.uses_of-uses.ensures;
-      stream = c.if-i-streams.false;
+      stream = c.loop-i-test.true;
       place = inside;
       room = omega (arith, c.requires.room, (heard).rows.same);
       whole_points = c.requires.whole_points;
@@ -33,36 +33,36 @@ loop-f-preserved c =
     let inside : c.loop-f.f < places_of c.args.plan.width = omega (arith, c.loop-f-test.true, c.places_of-places.ensures) in (
       omega (arith, c.loop-f-test.true),
       λ d rows.
-          places_more c.args.plan c.args.points.now c.args.format c.args.n c.requires.fits c.streams.i c.loop-f.f d
+          places_more c.args.plan c.args.points.now c.args.format c.args.n c.requires.fits c.loop-i.i c.loop-f.f d
           c.loop-f.bits _ (inside) (c.loop-f.invariant.1 d rows) c.hear_place.ensures.1
-          (sym (c.hear_place.ensures.0 c.args.format c.polarity_bit-polarity.ensures.0) ∙ c.if-hear_place.true),
+          (sym (c.hear_place.ensures.0 c.args.format c.polarity_bit-polarity.ensures.0) ∙ c.if-not-hear_place.false),
     )
 
-pub streams-preserved : goal.streams-preserved
-streams-preserved c =
-    let heard : PlacesHeard c.args.plan c.args.points.now c.args.format c.args.n c.streams.i c.loop-f.f c.args.bits.now c.loop-f.bits = c.loop-f.invariant.1 c.args.bits.now c.streams.invariant.1 in
+pub loop-i-preserved : goal.loop-i-preserved
+loop-i-preserved c =
+    let heard : PlacesHeard c.args.plan c.args.points.now c.args.format c.args.n c.loop-i.i c.loop-f.f c.args.bits.now c.loop-f.bits = c.loop-f.invariant.1 c.args.bits.now c.loop-i.invariant.1 in
     let all : c.loop-f.f ≡ places_of c.args.plan.width = omega (arith, c.loop-f.invariant.0, c.loop-f-test.false, c.places_of-places.ensures) in (
-      omega (arith, c.if-i-streams.false),
-      rows_more c.args.plan c.args.points.now c.args.format c.args.n c.requires.fits c.streams.i c.loop-f.f _ _ all
+      omega (arith, c.loop-i-test.true),
+      rows_more c.args.plan c.args.points.now c.args.format c.args.n c.requires.fits c.loop-i.i c.loop-f.f _ _ all
           (heard),
     )
 
-pub returns-then-i-streams-clause-value : goal.returns-then-i-streams-clause-value
-returns-then-i-streams-clause-value c = (answer_all c.args.plan c.args.points.now c.args.format c.args.n c.requires.fits c.streams.i _ _ c.if-i-streams.true
-    c.streams.invariant.1).0
+pub returns-clause-value : goal.returns-clause-value
+returns-clause-value c = (answer_all c.args.plan c.args.points.now c.args.format c.args.n c.requires.fits c.loop-i.i _ _ c.loop-i-test.false
+    c.loop-i.invariant.1).0
 
-pub returns-else-hear_place-clause-value : goal.returns-else-hear_place-clause-value
-returns-else-hear_place-clause-value c =
-    let heard : PlacesHeard c.args.plan c.args.points.now c.args.format c.args.n c.streams.i c.loop-f.f c.args.bits.now c.loop-f.bits = c.loop-f.invariant.1 c.args.bits.now c.streams.invariant.1 in
+pub returns-then-not-hear_place-clause-value : goal.returns-then-not-hear_place-clause-value
+returns-then-not-hear_place-clause-value c =
+    let heard : PlacesHeard c.args.plan c.args.points.now c.args.format c.args.n c.loop-i.i c.loop-f.f c.args.bits.now c.loop-f.bits = c.loop-f.invariant.1 c.args.bits.now c.loop-i.invariant.1 in
     let inside : c.loop-f.f < places_of c.args.plan.width = omega (arith, c.loop-f-test.true, c.places_of-places.ensures) in
-    (answer_at_lem c.args.plan c.args.points.now c.args.format c.args.n c.requires.fits c.streams.i c.loop-f.f _
-    c.loop-f.bits _ c.if-i-streams.false (inside) (heard) c.hear_place.ensures.1
-    (sym (c.hear_place.ensures.0 c.args.format c.polarity_bit-polarity.ensures.0) ∙ c.if-hear_place.false)).0
+    (answer_at_lem c.args.plan c.args.points.now c.args.format c.args.n c.requires.fits c.loop-i.i c.loop-f.f _
+    c.loop-f.bits _ c.loop-i-test.true (inside) (heard) c.hear_place.ensures.1
+    (sym (c.hear_place.ensures.0 c.args.format c.polarity_bit-polarity.ensures.0) ∙ c.if-not-hear_place.true)).0
 
-pub returns-else-hear_place-clause-bits_shown : goal.returns-else-hear_place-clause-bits_shown
-returns-else-hear_place-clause-bits_shown c =
-    let heard : PlacesHeard c.args.plan c.args.points.now c.args.format c.args.n c.streams.i c.loop-f.f c.args.bits.now c.loop-f.bits = c.loop-f.invariant.1 c.args.bits.now c.streams.invariant.1 in
+pub returns-then-not-hear_place-clause-bits_shown : goal.returns-then-not-hear_place-clause-bits_shown
+returns-then-not-hear_place-clause-bits_shown c =
+    let heard : PlacesHeard c.args.plan c.args.points.now c.args.format c.args.n c.loop-i.i c.loop-f.f c.args.bits.now c.loop-f.bits = c.loop-f.invariant.1 c.args.bits.now c.loop-i.invariant.1 in
     let inside : c.loop-f.f < places_of c.args.plan.width = omega (arith, c.loop-f-test.true, c.places_of-places.ensures) in
-    (answer_at_lem c.args.plan c.args.points.now c.args.format c.args.n c.requires.fits c.streams.i c.loop-f.f _
-    c.loop-f.bits _ c.if-i-streams.false (inside) (heard) c.hear_place.ensures.1
-    (sym (c.hear_place.ensures.0 c.args.format c.polarity_bit-polarity.ensures.0) ∙ c.if-hear_place.false)).1
+    (answer_at_lem c.args.plan c.args.points.now c.args.format c.args.n c.requires.fits c.loop-i.i c.loop-f.f _
+    c.loop-f.bits _ c.loop-i-test.true (inside) (heard) c.hear_place.ensures.1
+    (sym (c.hear_place.ensures.0 c.args.format c.polarity_bit-polarity.ensures.0) ∙ c.if-not-hear_place.true)).1

@@ -5,14 +5,8 @@ use Rattle.detector.proofs.SearchLaws.{RowsHeard, PlacesHeard}
 use Rattle.detector.proofs.search.symbol_bits.Given as goal
 
 -- `symbol_bits`: before each place, every point passed is given and its label bits are stored.
+abbrev pub invariant-loop-i : goal.invariant-loop-i
+invariant-loop-i l = (l.i ≤ l.plan.streams) × RowsHeard l.plan l.points l.format l.n l.i l.initial.bits l.bits
+
 abbrev pub invariant-loop-f : goal.invariant-loop-f
 invariant-loop-f l = (l.f ≤ l.places) × ((d : List ℕ) → RowsHeard l.plan l.points l.format l.n l.i d l.initial.bits → PlacesHeard l.plan l.points l.format l.n l.i l.f d l.bits)
-
-abbrev pub decreases-loop-f : goal.decreases-loop-f
-decreases-loop-f l = l.places - l.f
-
-abbrev pub invariant-streams : goal.invariant-streams
-invariant-streams l = (l.i ≤ l.streams) × RowsHeard l.plan l.points l.format l.n l.i l.initial.bits l.bits
-
-abbrev pub decreases-streams : goal.decreases-streams
-decreases-streams l = l.streams - l.i

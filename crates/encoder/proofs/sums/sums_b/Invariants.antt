@@ -7,6 +7,3 @@ use Rattle.encoder.proofs.sums.sums_b.Given as goal
 
 abbrev pub invariant-loop-j : goal.invariant-loop-j
 invariant-loop-j l = (l.j ≤ l.count) × Filled 0 2160 (λ k. xor_b (λ e. get_or l.line e 0) l.encoders k) l.j l.initial.sums l.sums
-
-abbrev pub decreases-loop-j : goal.decreases-loop-j
-decreases-loop-j l = l.count - l.j

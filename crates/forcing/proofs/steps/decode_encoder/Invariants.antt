@@ -11,6 +11,3 @@ invariant-loop-g l = (l.g ≤ l.groups)
     × Tally l.history (λ k. get_or l.coded (l.base + k) 0) l.kept l.g l.bad
     × (l.i ≡ l.base + l.kept * l.g)
     × (l.to ≡ l.encoders * ((l.kept - 1) * l.g) + l.j)
-
-abbrev pub decreases-loop-g : goal.decreases-loop-g
-decreases-loop-g l = l.groups - l.g

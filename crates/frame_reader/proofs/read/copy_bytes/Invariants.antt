@@ -6,6 +6,3 @@ use Rattle.frame_reader.proofs.read.copy_bytes.Given as goal
 
 abbrev pub invariant-loop-i : goal.invariant-loop-i
 invariant-loop-i l = (l.i ≤ l.count) × Filled 0 0 (λ k. get_or l.from k 0) l.i l.initial.to l.to
-
-abbrev pub decreases-loop-i : goal.decreases-loop-i
-decreases-loop-i l = l.count - l.i

@@ -5,6 +5,3 @@ use Rattle.inputs.proofs.line.clear.Given as goal
 
 abbrev pub invariant-loop-t : goal.invariant-loop-t
 invariant-loop-t l = (l.t ≤ l.count) × Filled 0 l.to (λ k. 0) l.t l.initial.line l.line
-
-abbrev pub decreases-loop-t : goal.decreases-loop-t
-decreases-loop-t l = l.count - l.t

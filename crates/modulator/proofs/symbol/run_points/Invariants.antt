@@ -8,6 +8,3 @@ use Rattle.modulator.proofs.symbol.run_points.Given as goal
 
 abbrev pub invariant-loop-k : goal.invariant-loop-k
 invariant-loop-k l = (l.k ≤ l.count) × Filled nan l.to (λ g. whole (run_level l.halves l.bits l.from l.carrier l.turned g)) (2 * l.k) l.initial.out l.out
-
-abbrev pub decreases-loop-k : goal.decreases-loop-k
-decreases-loop-k l = l.count - l.k

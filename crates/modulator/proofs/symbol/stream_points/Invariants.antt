@@ -7,6 +7,3 @@ use Rattle.modulator.proofs.symbol.stream_points.Given as goal
 
 abbrev pub invariant-loop-r : goal.invariant-loop-r
 invariant-loop-r l = (l.r ≤ l.runs) × (length l.out ≡ length l.initial.out) × PartFilled l.plan l.halves l.polarity l.n l.i l.base l.from l.r l.initial.out l.out
-
-abbrev pub decreases-loop-r : goal.decreases-loop-r
-decreases-loop-r l = l.runs - l.r

@@ -9,6 +9,3 @@ use Rattle.modulator.proofs.symbol.symbol_points.Given as goal
 
 abbrev pub invariant-loop-i : goal.invariant-loop-i
 invariant-loop-i l = (l.i ≤ l.streams) × Filled nan 0 (symbol_float l.plan (halves_in l.halves (halves_of l.plan)) l.format l.n) (l.i * stream_floats l.plan.width) l.initial.out l.out
-
-abbrev pub decreases-loop-i : goal.decreases-loop-i
-decreases-loop-i l = l.streams - l.i

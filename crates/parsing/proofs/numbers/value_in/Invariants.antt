@@ -8,6 +8,3 @@ use Rattle.parsing.proofs.numbers.value_in.Given as goal
 
 abbrev pub invariant-loop-i : goal.invariant-loop-i
 invariant-loop-i l = (l.from ≤ l.i) × (l.i ≤ l.to) × (l.value + 23 ≤ 23 * tens (l.i - l.from)) × (decimal_from l.value (take (l.to - l.i) (drop l.i l.line)) ≡ decimal_from 0 (take (l.to - l.from) (drop l.from l.line)))
-
-abbrev pub decreases-loop-i : goal.decreases-loop-i
-decreases-loop-i l = l.to - l.i

@@ -6,6 +6,3 @@ use Rattle.puncturing.proofs.coded.pick.Given as goal
 
 abbrev pub invariant-loop-y : goal.invariant-loop-y
 invariant-loop-y l = (l.y ≤ l.count) × Filled 0 l.to (λ k. get_or l.sums (get_or l.places k 0 + l.j) 0) l.y l.initial.coded l.coded
-
-abbrev pub decreases-loop-y : goal.decreases-loop-y
-decreases-loop-y l = l.count - l.y

@@ -6,6 +6,3 @@ use Rattle.puncturing.proofs.coded.sum_places.Given as goal
 
 abbrev pub invariant-loop-y : goal.invariant-loop-y
 invariant-loop-y l = (l.y ≤ l.count) × Filled 0 0 (λ k. sum_place l.kept l.encoders k) l.y l.initial.places l.places
-
-abbrev pub decreases-loop-y : goal.decreases-loop-y
-decreases-loop-y l = l.count - l.y

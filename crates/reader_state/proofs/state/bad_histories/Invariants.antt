@@ -5,6 +5,3 @@ use Rattle.reader_state.proofs.state.bad_histories.Given as goal
 
 abbrev pub invariant-loop-j : goal.invariant-loop-j
 invariant-loop-j l = (l.j ≤ 2) × ((k : ℕ) → k < l.j → get_or l.histories k 0 < 64)
-
-abbrev pub decreases-loop-j : goal.decreases-loop-j
-decreases-loop-j l = 2 - l.j

@@ -7,6 +7,3 @@ use Rattle.scrambler.proofs.outputs.first_outputs.Given as goal
 
 abbrev pub invariant-loop-t : goal.invariant-loop-t
 invariant-loop-t l = (l.t ≤ l.count) × Filled 0 0 (λ k. scrambler_bit l.state k) l.t l.initial.outputs l.outputs × (l.now_at ≡ state_at l.state l.t) × (l.now_at < 128)
-
-abbrev pub decreases-loop-t : goal.decreases-loop-t
-decreases-loop-t l = l.count - l.t

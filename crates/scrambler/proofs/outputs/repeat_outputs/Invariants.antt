@@ -6,6 +6,3 @@ use Rattle.scrambler.proofs.outputs.repeat_outputs.Given as goal
 
 abbrev pub invariant-loop-t : goal.invariant-loop-t
 invariant-loop-t l = (127 ≤ l.t) × (l.t ≤ l.count) × Filled 0 127 (λ k. get_or l.initial.outputs (k % 127) 0) (l.t - 127) l.initial.outputs l.outputs
-
-abbrev pub decreases-loop-t : goal.decreases-loop-t
-decreases-loop-t l = l.count - l.t

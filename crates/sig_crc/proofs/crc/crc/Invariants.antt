@@ -6,6 +6,3 @@ use Rattle.sig_crc.proofs.crc.crc.Given as goal
 
 abbrev pub invariant-loop-i : goal.invariant-loop-i
 invariant-loop-i l = (l.i ≤ 34) × (l.r < 256) × (crc_run (34 - l.i) l.r l.w ≡ crc_run 34 255 l.head)
-
-abbrev pub decreases-loop-i : goal.decreases-loop-i
-decreases-loop-i l = 34 - l.i

@@ -7,6 +7,3 @@ use Rattle.sources.proofs.sources.parse.Given as goal
 
 abbrev pub invariant-loop-r : goal.invariant-loop-r
 invariant-loop-r l = (l.r ≤ l.count) × Filled 0 0 (λ k. coded_slot l.s l.streams l.encoders 0 (get_or l.initial.table k 0)) l.r l.initial.table l.table
-
-abbrev pub decreases-loop-r : goal.decreases-loop-r
-decreases-loop-r l = l.count - l.r

@@ -6,6 +6,3 @@ use Rattle.sources.proofs.sources.stream_sources.Given as goal
 
 abbrev pub invariant-loop-r : goal.invariant-loop-r
 invariant-loop-r l = (l.r ≤ l.count) × Filled 0 0 (λ k. source l.width l.bits 0 k) l.r l.initial.table l.table
-
-abbrev pub decreases-loop-r : goal.decreases-loop-r
-decreases-loop-r l = l.count - l.r

@@ -7,6 +7,3 @@ use Rattle.subcarriers.proofs.layout.run_at.Given as goal
 -- the run before the one that is looked at begins at f or before
 abbrev pub invariant-loop-r : goal.invariant-loop-r
 invariant-loop-r l = (1 ≤ l.r) × (l.r ≤ l.runs) × (l.run ≡ run_of l.width (l.r - 1)) × (l.run.place ≤ l.f)
-
-abbrev pub decreases-loop-r : goal.decreases-loop-r
-decreases-loop-r l = l.runs - l.r

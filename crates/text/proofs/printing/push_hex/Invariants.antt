@@ -7,6 +7,3 @@ use Rattle.text.proofs.printing.push_hex.Given as goal
 
 abbrev pub invariant-loop-i : goal.invariant-loop-i
 invariant-loop-i l = (l.i ≤ length l.bytes) × (l.next.len + 2 * (length l.bytes - l.i) ≤ 40) × (pushed_all l.next (hex_bytes (drop l.i l.bytes)) ≡ pushed_all l.initial.next (hex_bytes l.bytes))
-
-abbrev pub decreases-loop-i : goal.decreases-loop-i
-decreases-loop-i l = length l.bytes - l.i

@@ -7,6 +7,3 @@ use Rattle.text.proofs.printing.push_text.Given as goal
 
 abbrev pub invariant-loop-i : goal.invariant-loop-i
 invariant-loop-i l = (l.i ≤ length l.text) × (l.next.len + (length l.text - l.i) ≤ 40) × (pushed_all l.next (drop l.i l.text) ≡ pushed_all l.initial.next l.text)
-
-abbrev pub decreases-loop-i : goal.decreases-loop-i
-decreases-loop-i l = length l.text - l.i
