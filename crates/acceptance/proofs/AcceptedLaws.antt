@@ -1,4 +1,7 @@
 -- The definitions from a symbol's inputs on look at the symbol's own inputs only, and what the code computes from lists is what they say. Assumes nothing.
+use Rattle.std.specs.Prelude.{Err, None, Ok, Option, Result, Some}
+use Rattle.acceptance.specs.declared.accept.StepRefusal.{StepRefusal}
+use Rattle.acceptance.specs.declared.accept.StepRefusal.TheVariants.{Refused as StepRefused}
 use mathlib.Core.Path.{◌≡◌, ◌∙◌, refl, sym, ap, ap₂}
 use mathlib.Core.Bool.{Bool, true, false, cond, ◌&&◌}
 use mathlib.Core.List.{List, ◌++◌}
@@ -26,8 +29,6 @@ use Rattle.assembler.proofs.Packing.{packed_ext}
 use Rattle.deframer.proofs.Framing.{framed_ext}
 use Rattle.assembler.proofs.KnownBits.{known_ext}
 use Rattle.reader_state.specs.declared.state.Reader.{Reader}
-use Rattle.acceptance.specs.declared.accept.StepAnswer.{StepAnswer}
-use Rattle.acceptance.specs.declared.accept.StepAnswer.TheVariants.{First, Next, Refused as StepRefused}
 use Rattle.acceptance.specs.declared.accept.Stepped.{Stepped}
 use Rattle.reader_state.specs.State.{first_bit, ended_of}
 use Rattle.acceptance.specs.Accepted.{answered, scrambler_for, plain_of, frame_right, bits_before, bits_after, known_of, part_left, bytes_left, bytes_into, step_into_by, moved_with, accepted_with, by_frame}
@@ -75,7 +76,7 @@ module _ (s : Settings) (right : Right s) (st : Reader) (X X' : ℕ → ℕ) (sa
 
   pub frame_by : (histories : List ℕ) → by_frame s st X histories ≡ by_frame s st X' histories
   frame_by histories =
-      ap₂ (λ (t : Bool) (w : Stepped). cond t w (answered (StepRefused Frame) (ended_of st))) frame_ext
+      ap₂ (λ (t : Bool) (w : Stepped). cond t w (answered (Err (StepRefused Frame)) (ended_of st))) frame_ext
       (ap₂ answered (ap (accepted_with st) scrambler_ext) (ap₂ (moved_with s st histories) scrambler_ext left_ext))
 
 -- ---- what the code computes
@@ -152,7 +153,7 @@ module _ (s : Settings) (p : Plan) (plan : p ≡ plan_for s) where
       }
 
 -- an accepted symbol's bytes are written, whichever symbol it is
-into_accepted : (b : Bool) (k : ℕ) (written payload : List ℕ) → written ≡ step_into_by (cond b (First k) Next) written payload
+into_accepted : (b : Bool) (k : ℕ) (written payload : List ℕ) → written ≡ step_into_by (cond b (Ok (Some k)) (Ok None)) written payload
 into_accepted true k written payload = refl
 into_accepted false k written payload = refl
 
@@ -172,12 +173,12 @@ module _ (s : Settings) (right : Right s) (st : Reader) (X : ℕ → ℕ) (histo
       (framed_ext s.length (plan_for s).encoders (first_bit s st.symbol) (plan_for s).dbps X (bit_numbered plain) X (plain_of st X) (λ d l. refl) plain_is)
 
   pub heard_refused : (after : Reader) (payload : List ℕ) → tested ≡ false → after ≡ ended_of st
-      → HeardInputs s st X histories (record { answer = StepRefused Frame; state = after }) payload payload
+      → HeardInputs s st X histories (record { answer = Err (StepRefused Frame); state = after }) payload payload
   heard_refused after payload e f =
       let wrong : frame_right s st X ≡ false = sym tested_is ∙ e in
-      record { stepped = ap (answered (StepRefused Frame)) f ∙ simp wrong; written = refl }
+      record { stepped = ap (answered (Err (StepRefused Frame))) f ∙ simp wrong; written = refl }
 
-  pub heard_accepted : (answer : StepAnswer) (after : Reader) (part : ℕ) (payload₀ payload : List ℕ) → tested ≡ true
+  pub heard_accepted : (answer : Result (Option ℕ) StepRefusal) (after : Reader) (part : ℕ) (payload₀ payload : List ℕ) → tested ≡ true
       → answer ≡ accepted_with st k → after ≡ moved_with s st histories k part → part ≡ part_left s st.symbol st.part (bit_numbered plain)
       → payload ≡ bytes_left s st.symbol st.part (bit_numbered plain) payload₀
       → HeardInputs s st X histories (record { answer = answer; state = after }) payload₀ payload
@@ -192,7 +193,7 @@ module _ (s : Settings) (right : Right s) (st : Reader) (X : ℕ → ℕ) (histo
         written =
             w ∙ bytes_ext s st.symbol st.part (bit_numbered plain) (plain_of st X) plain_is payload₀
             ∙ into_accepted (eqb st.symbol 0) k (bytes_left s st.symbol st.part (plain_of st X) payload₀) payload₀
-            ∙ ap (λ (a : StepAnswer). step_into_by a (bytes_left s st.symbol st.part (plain_of st X) payload₀) payload₀) (sym f);
+            ∙ ap (λ (a : Result (Option ℕ) StepRefusal). step_into_by a (bytes_left s st.symbol st.part (plain_of st X) payload₀) payload₀) (sym f);
       }
 
 -- the plain bits that were put, and that they are bits

@@ -1,5 +1,7 @@
 -- The strict reader's step from a symbol's inputs X on (document 01, refusal 11): its answer, the state that it returns, and the payload's bytes afterwards.
-use Rattle.std.specs.Prelude.{Bool, cond, ◌&&◌, List, ◌++◌, ℕ, ◌+◌, ◌-◌, ◌/◌, eqb, ltb, take, drop}
+use Rattle.acceptance.specs.declared.accept.StepRefusal.{StepRefusal}
+use Rattle.acceptance.specs.declared.accept.StepRefusal.TheVariants.{BadPoint, Refused as StepRefused}
+use Rattle.std.specs.Prelude.{Bool, cond, ◌&&◌, List, ◌++◌, ℕ, ◌+◌, ◌-◌, ◌/◌, eqb, ltb, take, drop, Err, None, Ok, Option, Result, Some}
 use Rattle.laws.specs.Firsts.{firsts}
 use Rattle.chain.specs.Scrambler.{state_at, seed_of}
 use Rattle.settings.specs.declared.settings.Refusal.TheVariants.{Frame}
@@ -9,12 +11,10 @@ use Rattle.symbols.specs.Symbols.{symbols_of}
 use Rattle.deframer.specs.Deframed.{plain_bit, framed}
 use Rattle.assembler.specs.Assembled.{payload_before, byte_of, part_of, known_bit}
 use Rattle.reader_state.specs.declared.state.Reader.{Reader}
-use Rattle.acceptance.specs.declared.accept.StepAnswer.{StepAnswer}
-use Rattle.acceptance.specs.declared.accept.StepAnswer.TheVariants.{First, Next, BadPoint, Refused as StepRefused}
 use Rattle.acceptance.specs.declared.accept.Stepped.{Stepped}
 use Rattle.reader_state.specs.State.{first_bit, ended_of}
 
-abbrev pub answered : StepAnswer → Reader → Stepped
+abbrev pub answered : Result (Option ℕ) StepRefusal → Reader → Stepped
 answered a st = record { answer = a; state = st }
 
 -- the scrambler at the symbol's first bit: at symbol 0 the seed that the inputs show
@@ -57,11 +57,11 @@ unfoldable pub bytes_into : Settings → Reader → (X : ℕ → ℕ) → List �
 bytes_into s st X payload = bytes_left s st.symbol st.part (plain_of st X) payload
 
 -- a refusal writes nothing
-abbrev pub step_into_by : StepAnswer → (written : List ℕ) → List ℕ → List ℕ
-step_into_by (First seed) written payload = written
-step_into_by Next written payload = written
-step_into_by (BadPoint i z) written payload = payload
-step_into_by (StepRefused r) written payload = payload
+abbrev pub step_into_by : Result (Option ℕ) StepRefusal → (written : List ℕ) → List ℕ → List ℕ
+step_into_by (Ok (Some seed)) written payload = written
+step_into_by (Ok None) written payload = written
+step_into_by (Err (BadPoint i z)) written payload = payload
+step_into_by (Err (StepRefused r)) written payload = payload
 
 -- the state after an accepted symbol that began at a scrambler's state; after the last symbol it is finished, its end marked
 abbrev pub moved_with : Settings → Reader → (histories : List ℕ) (scrambler part : ℕ) → Reader
@@ -75,8 +75,8 @@ moved_with s st histories scrambler part = record {
 }
 
 -- "the seed is in the answer to symbol 0"
-abbrev pub accepted_with : Reader → (scrambler : ℕ) → StepAnswer
-accepted_with st scrambler = cond (eqb st.symbol 0) (First scrambler) Next
+abbrev pub accepted_with : Reader → (scrambler : ℕ) → Result (Option ℕ) StepRefusal
+accepted_with st scrambler = cond (eqb st.symbol 0) (Ok (Some scrambler)) (Ok None)
 
 -- by refusal 11, the histories being known
 abbrev pub by_frame : Settings → Reader → (X : ℕ → ℕ) (histories : List ℕ) → Stepped
@@ -84,4 +84,4 @@ by_frame s st X histories =
     cond (frame_right s st X)
     (answered (accepted_with st (scrambler_for st X))
     (moved_with s st histories (scrambler_for st X) (part_left s st.symbol st.part (plain_of st X))))
-    (answered (StepRefused Frame) (ended_of st))
+    (answered (Err (StepRefused Frame)) (ended_of st))

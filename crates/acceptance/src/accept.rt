@@ -11,18 +11,17 @@ use scrambler::register::jump;
 use settings::settings::{Refusal, Settings, plan_of};
 use symbols::count::symbols_of;
 
-// The first symbol with the seed, a later one, the first point that fails by its stream and subcarrier, or a refusal.
+// Why a symbol is refused: the first point that fails, by its stream and subcarrier, or a refusal without a place.
 #[derive(Clone, Copy)]
-pub enum StepAnswer {
-    First(u8),
-    Next,
+pub enum StepRefusal {
     BadPoint(u8, i32),
     Refused(Refusal),
 }
 
+// An accepted symbol's answer has the seed where it is the frame's first. There is a state in either case.
 #[derive(Clone, Copy)]
 pub struct Stepped {
-    pub answer: StepAnswer,
+    pub answer: Result<Option<u8>, StepRefusal>,
     pub state: Reader,
 }
 
@@ -38,14 +37,13 @@ fn scrambler_for(reader: Reader, inputs: &[u8]) -> u8
 }
 
 // An accepted symbol's answer.
-fn accepted_as(reader: Reader, scrambler: u8) -> StepAnswer
+fn accepted_as(reader: Reader, scrambler: u8) -> Result<Option<u8>, StepRefusal>
     ensures { result ≡ accepted_with reader scrambler }
 {
-    let first = reader.symbol == 0;
-    if first {
-        return StepAnswer::First(scrambler);
+    if reader.symbol == 0 {
+        return Ok(Some(scrambler));
     }
-    StepAnswer::Next
+    Ok(None)
 }
 
 // The state after an accepted symbol.
@@ -124,7 +122,7 @@ pub fn hear_inputs(
         };
     }
     Stepped {
-        answer: StepAnswer::Refused(Refusal::Frame),
+        answer: Err(StepRefusal::Refused(Refusal::Frame)),
         state: ended(reader),
     }
 }

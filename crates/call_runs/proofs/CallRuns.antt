@@ -1,4 +1,7 @@
 -- The reader by its C calls: the numbers handed back are the states that were returned, so that demand 2 holds of the calls. Assumes nothing.
+use Rattle.std.specs.Prelude.{Err, Ok, Result}
+use Rattle.settings.specs.declared.settings.Refusal.{Refusal}
+use Rattle.settings.specs.declared.settings.Settings.{Settings}
 use mathlib.Core.Path.{◌≡◌, ◌∙◌, refl, sym, ap, ap₂, subst}
 use mathlib.Core.Bool.{Bool, false, cond}
 use mathlib.Core.List.{List}
@@ -11,12 +14,9 @@ use lib.ListN.{length}
 use lib.IntN.{pos}
 use lib.Ieee.{Float}
 use Rattle.laws.specs.Integers.{minus}
-use Rattle.settings.specs.declared.settings.Checked.{Checked}
-use Rattle.settings.specs.declared.settings.Checked.TheVariants.{Accepted, Refused}
 use Rattle.settings.specs.Settings.{check_of}
 use Rattle.reader_state.specs.declared.state.OpenSettings.{OpenSettings}
 use Rattle.reader_state.specs.declared.state.Reader.{Reader}
-use Rattle.reader_state.specs.declared.state.StartAnswer.TheVariants.{Ready}
 use Rattle.acceptance.specs.declared.accept.Stepped.{Stepped}
 use Rattle.reader_state.specs.State.{open_raw, start_by}
 use Rattle.reader.specs.Step.{step_of, step_into, step_number, step_seed}
@@ -36,10 +36,10 @@ use Rattle.call_runs.proofs.Held.{Held, held_back, held_below, held_told, start_
 -- ---- the start
 
 -- a start that returned a number is begun, and the number is its state's
-pub begun_by : (x : Checked) (o : OpenSettings) (first : ℕ) → start_result (start_by x o) ≡ pos first
-    → ((start_by x o).answer ≡ Ready) × (first ≡ state_number (start_by x o).state)
-begun_by (Accepted s) o first e = (refl, sym (pos_told _ first e))
-begun_by (Refused r) o first e = absurd (refused_not_pos r first e)
+pub begun_by : (x : Result Settings Refusal) (o : OpenSettings) (first : ℕ) → start_result (start_by x o) ≡ pos first
+    → ((start_by x o).answer ≡ Ok tt) × (first ≡ state_number (start_by x o).state)
+begun_by (Ok s) o first e = (refl, sym (pos_told _ first e))
+begun_by (Err r) o first e = absurd (refused_not_pos r first e)
 
 -- ---- a step's result by its parts
 

@@ -1,4 +1,7 @@
 -- Calls that are 8 and tried again, and calls that are closed for ever: terms of specs/Statements. Assumes nothing.
+use Rattle.std.specs.Prelude.{Err, None, Ok, Option, Result, Some}
+use Rattle.acceptance.specs.declared.accept.StepRefusal.{StepRefusal}
+use Rattle.acceptance.specs.declared.accept.StepRefusal.TheVariants.{BadPoint, Refused as StepRefused}
 use mathlib.Core.Path.{◌≡◌, ◌∙◌, refl, sym, ap, subst}
 use mathlib.Core.Bool.{Bool, true, false, cond}
 use mathlib.Core.List.{List}
@@ -12,8 +15,6 @@ use lib.Ieee.{Float}
 use Rattle.symbols.specs.Symbols.{symbols_of}
 use Rattle.settings.specs.Settings.{check_of}
 use Rattle.reader_state.specs.declared.state.OpenSettings.{OpenSettings}
-use Rattle.acceptance.specs.declared.accept.StepAnswer.{StepAnswer}
-use Rattle.acceptance.specs.declared.accept.StepAnswer.TheVariants.{First, Next, BadPoint, Refused as StepRefused}
 use Rattle.reader_state.specs.State.{open_raw}
 use Rattle.reader.specs.Step.{step_of, step_into, step_number, step_seed}
 use Rattle.reader_numbers.specs.Numbers.{state_number, reader_of, stepped_number, closed_number, step_result, step_result_into}
@@ -32,7 +33,7 @@ use Rattle.call_runs.proofs.CallRuns.{begun_by, handed_is, number_is, seed_is, s
 -- ---- calls of which any are 8
 
 -- the seed of an accepted answer
-accepted_seed : (first : Bool) (seed : ℕ) → step_seed (cond first (First seed) Next) ≡ cond first seed 0
+accepted_seed : (first : Bool) (seed : ℕ) → step_seed (cond first (Ok (Some seed)) (Ok None)) ≡ cond first seed 0
 accepted_seed true seed = refl
 accepted_seed false seed = refl
 
@@ -126,11 +127,11 @@ no_state_closed o state points slice high = (
 -- ---- demand 2 (d)
 
 -- a step that is 12 has no seed
-closed_seed : (a : StepAnswer) → step_number a ≡ 12 → step_seed a ≡ 0
-closed_seed (First seed) e = absurd (let n : ◌≡◌ {A = ℕ} 0 12 = e in omega (arith, n))
-closed_seed Next e = refl
-closed_seed (BadPoint i z) e = refl
-closed_seed (StepRefused r) e = refl
+closed_seed : (a : Result (Option ℕ) StepRefusal) → step_number a ≡ 12 → step_seed a ≡ 0
+closed_seed (Ok (Some seed)) e = absurd (let n : ◌≡◌ {A = ℕ} 0 12 = e in omega (arith, n))
+closed_seed (Ok None) e = refl
+closed_seed (Err (BadPoint i z)) e = refl
+closed_seed (Err (StepRefused r)) e = refl
 
 module _ (o : OpenSettings) (first : ℕ) (S : ℕ → List Float) (M : ℕ → List ℕ) (begun : BegunWith o first) where
   closed_calls : (n : ℕ) → ClosedFrom o S M n → CallsClosedFrom o first S M n

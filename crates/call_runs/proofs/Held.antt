@@ -1,4 +1,8 @@
 -- States whose number loses nothing: the start's is one, and a step from one returns one, with an answer that its result has room for. Assumes nothing.
+use Rattle.std.specs.Prelude.{Err, None, Ok, Option, Result, Some}
+use Rattle.settings.specs.declared.settings.Refusal.{Refusal}
+use Rattle.acceptance.specs.declared.accept.StepRefusal.{StepRefusal}
+use Rattle.acceptance.specs.declared.accept.StepRefusal.TheVariants.{BadPoint, Refused as StepRefused}
 use mathlib.Core.Path.{◌≡◌, ◌∙◌, refl, sym, ap, subst}
 use mathlib.Core.Bool.{Bool, true, false, cond}
 use mathlib.Core.List.{List, [], ◌∷◌}
@@ -13,8 +17,6 @@ use Rattle.chain.specs.Scrambler.{seed_of}
 use Rattle.chain.proofs.ScramblerLaws.{state_small, seed_small}
 use Rattle.chain.proofs.DecodeLaws.{decoded_bit}
 use Rattle.settings.specs.declared.settings.Settings.{Settings}
-use Rattle.settings.specs.declared.settings.Checked.{Checked}
-use Rattle.settings.specs.declared.settings.Checked.TheVariants.{Accepted, Refused}
 use Rattle.settings.specs.Settings.{plan_for}
 use Rattle.settings.proofs.SettingsLaws.{number_range, right}
 use Rattle.symbols.proofs.CountLaws.{symbols_few}
@@ -24,8 +26,6 @@ use Rattle.deframer.proofs.Plain.{plain_bit_lem}
 use Rattle.assembler.proofs.KnownBits.{part_small}
 use Rattle.reader_state.specs.declared.state.OpenSettings.{OpenSettings}
 use Rattle.reader_state.specs.declared.state.Reader.{Reader}
-use Rattle.acceptance.specs.declared.accept.StepAnswer.{StepAnswer}
-use Rattle.acceptance.specs.declared.accept.StepAnswer.TheVariants.{First, Next, BadPoint, Refused as StepRefused}
 use Rattle.reader_state.specs.State.{open_raw, start_by, history_of, first_bit, ended_of, blank}
 use Rattle.acceptance.specs.Accepted.{scrambler_for, bits_after}
 use Rattle.reader.specs.Step.{step_of, step_number, step_seed}
@@ -116,9 +116,9 @@ blank_held o ended = record {
   part_fits = omega arith;
 }
 
-pub start_held : (x : Checked) (o : OpenSettings) → Held (start_by x o).state
-start_held (Accepted s) o = blank_held o false
-start_held (Refused r) o = blank_held o true
+pub start_held : (x : Result Settings Refusal) (o : OpenSettings) → Held (start_by x o).state
+start_held (Ok s) o = blank_held o false
+start_held (Err r) o = blank_held o true
 
 -- ---- an accepted symbol
 
@@ -166,11 +166,11 @@ step_held st h points bytes =
     step_by_lem (λ r. Held r.state) st h h (λ i z. held_ended st h) (held_ended st h) (held_ended st h) points bytes (λ o. moved_held st points o)
 
 -- an answer's number has five bits
-pub answer_below : (a : StepAnswer) → step_number a < 32
-answer_below (First seed) = omega arith
-answer_below Next = omega arith
-answer_below (BadPoint i z) = omega arith
-answer_below (StepRefused r) = omega (arith, (number_range r).1)
+pub answer_below : (a : Result (Option ℕ) StepRefusal) → step_number a < 32
+answer_below (Ok (Some seed)) = omega arith
+answer_below (Ok None) = omega arith
+answer_below (Err (BadPoint i z)) = omega arith
+answer_below (Err (StepRefused r)) = omega (arith, (number_range r).1)
 
 -- and its seed seven
 pub seed_below : (st : Reader) (points : List Float) (bytes : ℕ) → step_seed (step_of st points bytes).answer < 128
@@ -178,6 +178,6 @@ seed_below st points bytes =
     step_by_lem (λ r. step_seed r.answer < 128) st (omega arith) (omega arith) (λ i z. omega arith) (omega arith) (omega arith) points bytes
     (λ o. go (eqb st.symbol 0) _ (scrambler_below st points o))
   where
-    go : (first : Bool) (k : ℕ) → k < 128 → step_seed (cond first (First k) Next) < 128
+    go : (first : Bool) (k : ℕ) → k < 128 → step_seed (cond first (Ok (Some k)) (Ok None)) < 128
     go true k l = l
     go false k l = omega arith

@@ -1,4 +1,7 @@
 -- A refusal changes nothing in lent memory, call by call: the term of specs/Statements. Assumes nothing.
+use Rattle.std.specs.Prelude.{Err, Ok, Result}
+use Rattle.query.specs.declared.query.Carried.{Carried}
+use Rattle.settings.specs.declared.settings.Refusal.{Refusal}
 use mathlib.Core.Path.{◌≡◌, ◌∙◌, refl, ap}
 use mathlib.Core.Bool.{Bool, true, false, cond}
 use mathlib.Core.List.{List}
@@ -11,16 +14,10 @@ use lib.Ieee.{Float}
 use Rattle.settings.specs.declared.settings.Refusal.TheVariants.{Room}
 use Rattle.settings.specs.Settings.{check_of}
 use Rattle.settings.proofs.SettingsLaws.{number_range}
-use Rattle.signal.specs.declared.ht_sig.Written.{Written as SigWritten}
-use Rattle.signal.specs.declared.ht_sig.Written.TheVariants.{Done, Refused as WriteRefused}
 use Rattle.signal.specs.HtSig.{written_of, written_number}
 use Rattle.signal.proofs.HtSigLaws.{refused_writes_nothing}
-use Rattle.frame.specs.declared.points.PointsAnswer.{PointsAnswer}
-use Rattle.frame.specs.declared.points.PointsAnswer.TheVariants.{Written, Refused as PointsRefused}
 use Rattle.frame.specs.Points.{points_of, points_number}
 use Rattle.frame.proofs.Refusals.{refused_points_unchanged}
-use Rattle.query.specs.declared.query.QueryAnswer.{QueryAnswer}
-use Rattle.query.specs.declared.query.QueryAnswer.TheVariants.{Carries, Refused as QueryRefused}
 use Rattle.query.specs.Query.{query_of}
 use Rattle.conversions.specs.Results.{raw_of, refused_result, written_result, points_result, carried_number, carried_into, carrier_result, carrier_into}
 use Rattle.reader_state.specs.declared.state.OpenSettings.{OpenSettings}
@@ -39,17 +36,17 @@ use Rattle.call_runs.proofs.Held.{seed_below}
 use Rattle.call_runs.proofs.CallRuns.{stepped_parts}
 
 -- a negative result is a refusal's
-written_refused : (r : SigWritten) → Negative (written_result r) → written_number r ≡ 0 → ⊥
-written_refused Done negative e = negative 0 refl
-written_refused (WriteRefused r) negative e = omega (arith, e, (number_range r).0)
+written_refused : (r : Result (Unit {0}) Refusal) → Negative (written_result r) → written_number r ≡ 0 → ⊥
+written_refused (Ok tt) negative e = negative 0 refl
+written_refused (Err r) negative e = omega (arith, e, (number_range r).0)
 
-points_refused : (r : PointsAnswer) → Negative (points_result r) → points_number r ≡ 0 → ⊥
-points_refused (Written count) negative e = negative count refl
-points_refused (PointsRefused r) negative e = omega (arith, e, (number_range r).0)
+points_refused : (r : Result ℕ Refusal) → Negative (points_result r) → points_number r ≡ 0 → ⊥
+points_refused (Ok count) negative e = negative count refl
+points_refused (Err r) negative e = omega (arith, e, (number_range r).0)
 
-carrier_unchanged : (r : QueryAnswer) → Unchanged (λ out. Negative (carrier_result r (length out))) (λ out. carrier_into r out)
-carrier_unchanged (QueryRefused r) = λ out negative. refl
-carrier_unchanged (Carries c) = λ out. go out (ltb (length out) 2)
+carrier_unchanged : (r : Result Carried Refusal) → Unchanged (λ out. Negative (carrier_result r (length out))) (λ out. carrier_into r out)
+carrier_unchanged (Err r) = λ out negative. refl
+carrier_unchanged (Ok c) = λ out. go out (ltb (length out) 2)
   where
     go : (out : List Float) (small : Bool) → Negative (cond small (refused_result Room) (pos (carried_number c)))
         → cond small out (carried_into c out) ≡ out

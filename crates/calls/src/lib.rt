@@ -9,23 +9,19 @@ ghost use Rattle.frame.specs.Points.{points_of, points_into};
 ghost use Rattle.query.specs.Query.{query_of};
 ghost use Rattle.conversions.specs.Results.{count_result, written_result, read_result, points_result, carrier_result, carrier_into};
 
-use conversions::{fields_number, put_carried, query_refusal, refused};
+use conversions::{fields_number, put_carried, refused};
 use frame::points;
-use frame::points::PointsAnswer;
-use query::query::QueryAnswer;
 use settings::settings::{RawSettings, Refusal};
 use signal::ht_sig;
-use signal::ht_sig::{SigRead, Written};
 use symbols::count;
-use symbols::count::Count;
 
 // The symbol count.
 pub fn count_call(raw: RawSettings) -> i64
     ensures { result ≡ count_result (count_of (check_of raw)) }
 {
     match count::symbol_count(raw) {
-        Count::Symbols(n) => n as i64,
-        Count::Refused(r) => refused(r),
+        Ok(n) => n as i64,
+        Err(r) => refused(r),
     }
 }
 
@@ -35,8 +31,8 @@ pub fn sig_write_call(raw: RawSettings, out: &mut [u8]) -> i64
     ensures out_after { out.new ≡ written_into (check_of raw) out.old }
 {
     match ht_sig::write(raw, out) {
-        Written::Done => 0,
-        Written::Refused(r) => refused(r),
+        Ok(()) => 0,
+        Err(r) => refused(r),
     }
 }
 
@@ -45,8 +41,8 @@ pub fn sig_read_call(sig: &[u8]) -> i64
     ensures { result ≡ read_result (read_of sig.now) }
 {
     match ht_sig::read(sig) {
-        SigRead::Fields(g) => fields_number(g) as i64,
-        SigRead::Refused(r) => refused(r),
+        Ok(g) => fields_number(g) as i64,
+        Err(r) => refused(r),
     }
 }
 
@@ -56,8 +52,8 @@ pub fn points_call(raw: RawSettings, payload: &[u8], symbol: u64, out: &mut [f32
     ensures out_after { out.new ≡ points_into (check_of raw) payload.now symbol out.old }
 {
     match points::points(raw, payload, symbol, out) {
-        PointsAnswer::Written(n) => n as i64,
-        PointsAnswer::Refused(r) => refused(r),
+        Ok(n) => n as i64,
+        Err(r) => refused(r),
     }
 }
 
@@ -73,13 +69,9 @@ pub fn carrier_call(
     ensures value { result ≡ carrier_result (query_of (check_of raw) payload.now symbol stream subcarrier) (length out.old) }
     ensures out_after { out.new ≡ carrier_into (query_of (check_of raw) payload.now symbol stream subcarrier) out.old }
 {
-    let answer = query::query::subcarrier(raw, payload, symbol, stream, subcarrier);
-    let QueryAnswer::Carries(carried) = answer else {
-        return refused(query_refusal(answer));
-    };
-    let small = out.len() < 2;
-    if small {
-        return refused(Refusal::Room);
+    match query::query::subcarrier(raw, payload, symbol, stream, subcarrier) {
+        Ok(_) if out.len() < 2 => refused(Refusal::Room),
+        Ok(carried) => put_carried(carried, out),
+        Err(r) => refused(r),
     }
-    put_carried(carried, out)
 }

@@ -1,4 +1,6 @@
 -- The number of a read tells its fields: the terms of specs/Statements. Assumes nothing.
+use Rattle.std.specs.Prelude.{Err, Ok, Result}
+use Rattle.settings.specs.declared.settings.Refusal.{Refusal}
 use mathlib.Core.Path.{◌≡◌, ◌∙◌, refl, sym, ap, subst}
 use mathlib.Core.Bool.{Bool, true, false}
 use mathlib.Core.Logic.{◌↔◌, ◌⊎◌, ⊎_elim}
@@ -10,8 +12,6 @@ use lib.IntN.{pos}
 use Rattle.sig_words.specs.declared.words.SigFields.{SigFields}
 use Rattle.sig_words.specs.Words.{one_if}
 use Rattle.sig_words.proofs.WordLaws.{one_small, same_fields}
-use Rattle.signal.specs.declared.ht_sig.SigRead.{SigRead}
-use Rattle.signal.specs.declared.ht_sig.SigRead.TheVariants.{Fields, Refused as ReadRefused}
 use Rattle.signal.specs.HtSig.{read_of}
 use Rattle.signal.proofs.ReadFields.{read_fields_fit, read_width}
 use Rattle.conversions.specs.Results.{fields_number, read_result}
@@ -80,9 +80,9 @@ one_number_one_read g h r r' e =
 pub read_result_told : ReadResultTold
 read_result_told sig number = go (read_of sig) refl
   where
-    go : (x : SigRead) → read_of sig ≡ x → read_result x ≡ pos number
-        → (g : SigFields) × ((read_of sig ≡ Fields g) × (Readable g × HasFields number g))
-    go (Fields g) is e =
+    go : (x : Result SigFields Refusal) → read_of sig ≡ x → read_result x ≡ pos number
+        → (g : SigFields) × ((read_of sig ≡ Ok g) × (Readable g × HasFields number g))
+    go (Ok g) is e =
         let readable : Readable g = (read_fields_fit sig g is, read_width sig g is) in
         (g, (is, (readable, subst (λ (n : ℕ). HasFields n g) (pos_told (fields_number g) number e) (fields_told g readable))))
-    go (ReadRefused r) is e = absurd (refused_not_pos r number e)
+    go (Err r) is e = absurd (refused_not_pos r number e)

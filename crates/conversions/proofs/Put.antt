@@ -1,4 +1,5 @@
 -- One and two floats put at the start of a list. Assumes nothing.
+use Rattle.std.specs.Prelude.{Err, Ok, Result}
 use mathlib.Core.Path.{◌≡◌, refl, sym, ap}
 use mathlib.Core.Bool.{Bool, cond}
 use mathlib.Core.List.{List, [], ◌∷◌}
@@ -11,8 +12,6 @@ use lib.Ieee.{Float}
 use Rattle.settings.specs.declared.settings.Refusal.{Refusal}
 use Rattle.settings.specs.declared.settings.Refusal.TheVariants.{Room}
 use Rattle.query.specs.declared.query.Carried.{Carried}
-use Rattle.query.specs.declared.query.QueryAnswer.{QueryAnswer}
-use Rattle.query.specs.declared.query.QueryAnswer.TheVariants.{Carries, Refused as QueryRefused}
 use Rattle.conversions.specs.Results.{refused_result, carried_number, carried_into, carrier_result, carrier_into}
 
 pub one_put : (l : List Float) (x : Float) → 2 ≤ length l → set l 0 x ≡ x ∷ drop 1 l
@@ -26,11 +25,11 @@ two_put (a ∷ (b ∷ l)) x y h = refl
 
 -- ---- the C call of the question: the result and the lent floats by its answer
 
-pub carrier_refused : (x : QueryAnswer) (r : Refusal) (l : List Float) → x ≡ QueryRefused r
+pub carrier_refused : (x : Result Carried Refusal) (r : Refusal) (l : List Float) → x ≡ Err r
     → (refused_result r ≡ carrier_result x (length l)) × (l ≡ carrier_into x l)
-carrier_refused x r l e = (ap (λ (y : QueryAnswer). carrier_result y (length l)) (sym e), ap (λ (y : QueryAnswer). carrier_into y l) (sym e))
+carrier_refused x r l e = (ap (λ (y : Result Carried Refusal). carrier_result y (length l)) (sym e), ap (λ (y : Result Carried Refusal). carrier_into y l) (sym e))
 
 -- by the test of the room
-pub carrier_by : (x : QueryAnswer) (k : Carried) (l : List Float) (small : Bool) → x ≡ Carries k → ltb (length l) 2 ≡ small
+pub carrier_by : (x : Result Carried Refusal) (k : Carried) (l : List Float) (small : Bool) → x ≡ Ok k → ltb (length l) 2 ≡ small
     → (cond small (refused_result Room) (pos (carried_number k)) ≡ carrier_result x (length l)) × (cond small l (carried_into k l) ≡ carrier_into x l)
 carrier_by x k l small e f = rw e (simp f, simp f)

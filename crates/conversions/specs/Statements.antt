@@ -1,9 +1,8 @@
 -- What the number of `ht_sig_read` tells (docs/C-API.md): "mcs + 2^7 · (1 where the width is 40) + 2^8 · length + 2^24 · smoothing
 -- + 2^25 · not sounding + 2^26 · aggregation + 2^27 · short guard". The terms are in proofs/FieldsTold.
-use Rattle.std.specs.Prelude.{◌≡◌, List, ◌↔◌, ◌⊎◌, ℕ, ◌/◌, ◌%◌, ◌<◌, pos}
+use Rattle.std.specs.Prelude.{◌≡◌, List, ◌↔◌, ◌⊎◌, ℕ, ◌/◌, ◌%◌, ◌<◌, pos, Ok}
 use Rattle.sig_words.specs.declared.words.SigFields.{SigFields}
 use Rattle.sig_words.specs.Words.{one_if, SigFits}
-use Rattle.signal.specs.declared.ht_sig.SigRead.TheVariants.{Fields}
 use Rattle.signal.specs.HtSig.{read_of}
 use Rattle.conversions.specs.Results.{fields_number, read_result}
 
@@ -32,4 +31,4 @@ OneNumberOneRead = (g h : SigFields) → Readable g → Readable h → fields_nu
 -- of the call's own result: where it is not negative, the bytes were read, and its fields are those that were read
 abbrev pub ReadResultTold : Type 0
 ReadResultTold = (sig : List ℕ) (number : ℕ) → read_result (read_of sig) ≡ pos number
-    → (g : SigFields) × ((read_of sig ≡ Fields g) × (Readable g × HasFields number g))
+    → (g : SigFields) × ((read_of sig ≡ Ok g) × (Readable g × HasFields number g))

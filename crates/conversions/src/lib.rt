@@ -4,9 +4,9 @@
 ghost use Rattle.std.specs.Prelude.{◌≡◌, ◌<◌, ◌≤◌, pos, length as length_of};
 ghost use Rattle.sig_words.specs.Words.{SigFits};
 ghost use Rattle.laws.specs.Integers.{minus};
-ghost use Rattle.conversions.specs.Results.{raw_of, refused_result, fields_number, carried_number, carried_into, IsRefusedQuery};
+ghost use Rattle.conversions.specs.Results.{raw_of, refused_result, fields_number, carried_number, carried_into};
 
-use query::query::{Carried, QueryAnswer};
+use query::query::Carried;
 use settings::settings::{RawSettings, Refusal, number};
 use sig_words::words;
 use sig_words::words::SigFields;
@@ -69,17 +69,6 @@ pub fn fields_number(g: SigFields) -> u64
         + 4 * words::one(g.aggregation)
         + 8 * words::one(g.short_guard);
     g.mcs + 128 * words::one(wide) + 256 * g.length + 16777216 * flags
-}
-
-pub fn query_refusal(answer: QueryAnswer) -> Refusal
-    requires { IsRefusedQuery answer }
-    ensures { answer ≡ QueryAnswer.Refused result }
-{
-    match answer {
-        QueryAnswer::Refused(r) => r,
-        // Ruled out by the `requires`.
-        QueryAnswer::Carries(_) => Refusal::Width,
-    }
 }
 
 // Puts what a subcarrier carries into the lent floats: 0 for nothing, 1 for a pilot's sign, 2 for a data point.

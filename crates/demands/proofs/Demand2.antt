@@ -1,4 +1,5 @@
 -- Demand 2 of the reader: a term for each sentence of specs/Demand2. Assumes nothing.
+use Rattle.std.specs.Prelude.{None, Ok, Some}
 use mathlib.Core.Path.{◌≡◌, ◌∙◌, refl, sym, ap, subst}
 use mathlib.Core.Bool.{true, cond}
 use mathlib.Core.List.{List, ◌++◌}
@@ -16,7 +17,6 @@ use Rattle.chain.specs.DataBits.{payload_bit}
 use Rattle.chain.proofs.InputLaws.{payload_bit_lem}
 use Rattle.settings.specs.declared.settings.RawSettings.{RawSettings}
 use Rattle.settings.specs.declared.settings.Settings.{Settings}
-use Rattle.settings.specs.declared.settings.Checked.TheVariants.{Accepted}
 use Rattle.settings.specs.Settings.{settings_of, check_of, plan_for, Right}
 use Rattle.settings.proofs.SettingsLaws.{accepted_is, passed, right}
 use Rattle.symbols.specs.Symbols.{symbols_of}
@@ -26,7 +26,6 @@ use Rattle.frame.specs.Compared.{SameSymbol}
 use Rattle.assembler.specs.Assembled.{byte_of}
 use Rattle.reader_state.specs.declared.state.OpenSettings.{OpenSettings}
 use Rattle.reader_state.specs.declared.state.Reader.{Reader}
-use Rattle.acceptance.specs.declared.accept.StepAnswer.TheVariants.{First, Next}
 use Rattle.acceptance.specs.declared.accept.Stepped.{Stepped}
 use Rattle.reader_state.specs.State.{with_seed, open_raw}
 use Rattle.acceptance.specs.Accepted.{answered}
@@ -45,7 +44,7 @@ use Rattle.demands.specs.Demand2.{IsFrame, GivesSymbol, lengths, CompleteWith, C
 use Rattle.demands.proofs.Reading.{begun_ready, written_is, written_long, gives_sent, sent_gives}
 
 -- a frame of bytes whose first m symbols are given, as a frame of payload bits
-abbrev pub gives_all : (o : OpenSettings) → check_of (open_raw o) ≡ Accepted (settings_for o) → (S : ℕ → List Float) (m : ℕ) → m ≤ symbols_of (settings_for o)
+abbrev pub gives_all : (o : OpenSettings) → check_of (open_raw o) ≡ Ok (settings_for o) → (S : ℕ → List Float) (m : ℕ) → m ≤ symbols_of (settings_for o)
     → (seed : ℕ) (p : List ℕ) → IsFrame o seed p → ((n : ℕ) → n < m → GivesSymbol o seed p n (S n)) → SentBy (settings_for o) S m
 gives_all o ready S m few seed p frame gives =
     payload_sent (settings_for o) S m seed p (omega (arith, frame.0)) (omega (arith, frame.1.0))
@@ -54,7 +53,7 @@ gives_all o ready S m few seed p frame gives =
 -- ---- (a)
 
 -- accepted symbols are given by some payload and seed
-pub accepted_given : (o : OpenSettings) → check_of (open_raw o) ≡ Accepted (settings_for o) → (S : ℕ → List Float) (bytes : ℕ → ℕ) (m : ℕ)
+pub accepted_given : (o : OpenSettings) → check_of (open_raw o) ≡ Ok (settings_for o) → (S : ℕ → List Float) (bytes : ℕ → ℕ) (m : ℕ)
     → m ≤ symbols_of (settings_for o) → Rooms (settings_for o) S bytes m → ((n : ℕ) → n < m → step_number (answer_to o S bytes n) ≡ 0)
     → (seed : ℕ) × ((p : List ℕ) × (IsFrame o seed p × ((n : ℕ) → n < m → GivesSymbol o seed p n (S n))))
 accepted_given o ready S bytes m few rooms accepted =
@@ -132,7 +131,7 @@ abbrev AllSent : (o : OpenSettings) (S : ℕ → List Float) (m seed : ℕ) (p :
 AllSent o S m seed p = (n : ℕ) → n < m → FloatsSent (settings_for o) (payload_bit p) seed n (S n)
 
 -- two frames with the same first m symbols
-module _ (o : OpenSettings) (ready : check_of (open_raw o) ≡ Accepted (settings_for o)) (S : ℕ → List Float) (m : ℕ) (some : 0 < m) (few : m ≤ symbols_of (settings_for o))
+module _ (o : OpenSettings) (ready : check_of (open_raw o) ≡ Ok (settings_for o)) (S : ℕ → List Float) (m : ℕ) (some : 0 < m) (few : m ≤ symbols_of (settings_for o))
     (seed seed' : ℕ) (p q : List ℕ) (s1 : 1 ≤ seed) (m1 : seed ≤ 127) (s2 : 1 ≤ seed') (m2 : seed' ≤ 127)
     (sent : AllSent o S m seed p) (sent' : AllSent o S m seed' q) where
   same_seed : seed ≡ seed'
@@ -184,7 +183,7 @@ last_ended : (o : OpenSettings) (s : Settings) (v : ℕ → ℕ) (seed : ℕ) �
 unfolding state_after
 last_ended o s v seed = eq-eqb (symbols_of s) (symbols_of s) refl
 
-pub ended_last : (o : OpenSettings) → check_of (open_raw o) ≡ Accepted (settings_for o) → (S : ℕ → List Float) (bytes : ℕ → ℕ)
+pub ended_last : (o : OpenSettings) → check_of (open_raw o) ≡ Ok (settings_for o) → (S : ℕ → List Float) (bytes : ℕ → ℕ)
     → Rooms (settings_for o) S bytes (symbols_of (settings_for o))
     → ((n : ℕ) → n < symbols_of (settings_for o) → step_number (answer_to o S bytes n) ≡ 0)
     → (state_before o S bytes (symbols_of (settings_for o))).ended ≡ true
@@ -236,11 +235,11 @@ steps_exactly o n begun below seed p (s1, (m1, (l1, b1))) points bytes room whol
     s : Settings
     s = settings_for o
 
-    ready : check_of (open_raw o) ≡ Accepted (settings_for o)
+    ready : check_of (open_raw o) ≡ Ok (settings_for o)
     ready = begun_ready o begun
 
     goes_on : (seed' : ℕ) (q : List ℕ) → IsFrame o seed' q → AgreeBefore o n seed p seed' q → GivesSymbol o seed' q n points
-        → step_of (state_of o seed p n) points bytes ≡ answered (cond (eqb n 0) (First seed') Next) (state_of o seed' q (n + 1))
+        → step_of (state_of o seed p n) points bytes ≡ answered (cond (eqb n 0) (Ok (Some seed')) (Ok None)) (state_of o seed' q (n + 1))
     goes_on seed' q (s2, (m2, (l2, b2))) agree gives =
         step_agrees o ready (payload_bit p) seed (payload_bit q) seed' (payload_bit_lem q) s2 (omega (arith, m2)) n below
         (record { bits = agree.1; seeds = agree.0 }) points room
@@ -257,17 +256,17 @@ demand_2e = (steps_exactly, states_lead)
 -- ---- (f)
 
 -- accepted settings are accepted without their seed
-open_ready : (a : RawSettings) → check_of a ≡ Accepted (settings_of a) → check_of (open_raw (without_seed a)) ≡ Accepted (settings_for (without_seed a))
+open_ready : (a : RawSettings) → check_of a ≡ Ok (settings_of a) → check_of (open_raw (without_seed a)) ≡ Ok (settings_for (without_seed a))
 open_ready a accepted =
     let t = passed a (settings_of a) accepted in
     sym (accepted_is (open_raw (without_seed a)) t.width t.mcs t.format t.length refl)
 
-module _ (a : RawSettings) (accepted : check_of a ≡ Accepted (settings_of a)) (p : List ℕ) (whole : WholePayload a p) (out : ℕ → List Float)
+module _ (a : RawSettings) (accepted : check_of a ≡ Ok (settings_of a)) (p : List ℕ) (whole : WholePayload a p) (out : ℕ → List Float)
     (slice : List ℕ) (enough : a.length ≤ length slice) where
   abbrev o : OpenSettings
   o = without_seed a
 
-  ready : check_of (open_raw o) ≡ Accepted (settings_for o)
+  ready : check_of (open_raw o) ≡ Ok (settings_for o)
   ready = open_ready a accepted
 
   in_range : Right (settings_of a)
@@ -287,7 +286,7 @@ module _ (a : RawSettings) (accepted : check_of a ≡ Accepted (settings_of a)) 
     rooms : Rooms (settings_for o) S (λ k. length slice) (symbols_of (settings_for o))
     rooms n l = (omega (arith, room n, written_long o ready a.seed in_range.seed_some most p n whole.0 l (out n) (room n)), enough)
 
-    read_answers : (n : ℕ) → n < symbols_of (settings_for o) → answer_to o S (λ k. length slice) n ≡ cond (eqb n 0) (First a.seed) Next
+    read_answers : (n : ℕ) → n < symbols_of (settings_for o) → answer_to o S (λ k. length slice) n ≡ cond (eqb n 0) (Ok (Some a.seed)) (Ok None)
     read_answers n l = run_takes o ready S (λ k. length slice) (symbols_of (settings_for o)) (omega arith) rooms read n l
 
     read_bytes : memory_before o S (λ k. length slice) (symbols_of (settings_for o)) slice ≡ take a.length p ++ drop a.length slice
@@ -299,10 +298,10 @@ module _ (a : RawSettings) (accepted : check_of a ≡ Accepted (settings_of a)) 
 -- what is said of the settings that raw settings mean
 abbrev ReadBack : (a : RawSettings) (p : List ℕ) (out : ℕ → List Float) (slice : List ℕ) → Settings → Type 0
 ReadBack a p out slice s = ((n : ℕ) → floats_of s ≤ length (out n))
-    → ((n : ℕ) → n < symbols_of s → answer_to (without_seed a) (symbols_of_frame a p out) (λ k. length slice) n ≡ cond (eqb n 0) (First a.seed) Next)
+    → ((n : ℕ) → n < symbols_of s → answer_to (without_seed a) (symbols_of_frame a p out) (λ k. length slice) n ≡ cond (eqb n 0) (Ok (Some a.seed)) (Ok None))
     × (memory_before (without_seed a) (symbols_of_frame a p out) (λ k. length slice) (symbols_of s) slice ≡ take a.length p ++ drop a.length slice)
 
-meant_back : (a : RawSettings) → check_of a ≡ Accepted (settings_of a) → (p : List ℕ) → WholePayload a p → (out : ℕ → List Float) (slice : List ℕ)
+meant_back : (a : RawSettings) → check_of a ≡ Ok (settings_of a) → (p : List ℕ) → WholePayload a p → (out : ℕ → List Float) (slice : List ℕ)
     → a.length ≤ length slice → ReadBack a p out slice (settings_of a)
 unfolding symbols_of plan_for
 meant_back a accepted p whole out slice enough room =
@@ -311,7 +310,7 @@ meant_back a accepted p whole out slice enough room =
 pub demand_2f : Demand2f
 demand_2f a p s accepted whole out room slice enough =
     let meant = (passed a s accepted).meant in
-    subst (ReadBack a p out slice) meant (meant_back a (accepted ∙ ap Accepted (sym meant)) p whole out slice enough) room
+    subst (ReadBack a p out slice) meant (meant_back a (accepted ∙ ap Ok (sym meant)) p whole out slice enough) room
 
 -- ---- (g)
 
@@ -321,7 +320,7 @@ ToldApart a a' p q out out' s = ((n : ℕ) → (floats_of s ≤ length (out n)) 
     → ((n : ℕ) → n < symbols_of s → SameSymbol s (symbols_of_frame a p out n) (symbols_of_frame a' q out' n))
     → (a.seed ≡ a'.seed) × (take a.length p ≡ take a.length q)
 
-module _ (o : OpenSettings) (ready : check_of (open_raw o) ≡ Accepted (settings_for o)) (seed seed' : ℕ) (p q : List ℕ) (s1 : 1 ≤ seed) (m1 : seed ≤ 127)
+module _ (o : OpenSettings) (ready : check_of (open_raw o) ≡ Ok (settings_for o)) (seed seed' : ℕ) (p q : List ℕ) (s1 : 1 ≤ seed) (m1 : seed ≤ 127)
     (s2 : 1 ≤ seed') (m2 : seed' ≤ 127) (w1 : WholePayload (with_seed o seed) p) (w2 : WholePayload (with_seed o seed') q) (out out' : ℕ → List Float) where
   frames_told : ToldApart (with_seed o seed) (with_seed o seed') p q out out' (settings_for o)
   frames_told room same =
@@ -339,7 +338,7 @@ module _ (o : OpenSettings) (ready : check_of (open_raw o) ≡ Accepted (setting
             ∙ first_bytes q o.length w2.0 w2.1,
       )
 
-meant_told : (a : RawSettings) → check_of a ≡ Accepted (settings_of a) → (seed' : ℕ) → 1 ≤ seed' → seed' ≤ 127 → (p q : List ℕ) → WholePayload a p
+meant_told : (a : RawSettings) → check_of a ≡ Ok (settings_of a) → (seed' : ℕ) → 1 ≤ seed' → seed' ≤ 127 → (p q : List ℕ) → WholePayload a p
     → WholePayload (with_seed (without_seed a) seed') q → (out out' : ℕ → List Float) → ToldApart a (with_seed (without_seed a) seed') p q out out' (settings_of a)
 unfolding symbols_of plan_for
 meant_told a accepted seed' some most p q w1 w2 out out' =
@@ -349,10 +348,10 @@ meant_told a accepted seed' some most p q w1 w2 out out' =
 pub demand_2g : Demand2g
 demand_2g a a' p q s s' accepted accepted' same w1 w2 out out' room equal =
     let meant = (passed a s accepted).meant in
-    let r = right a' (settings_of a') (accepted' ∙ ap Accepted (sym (passed a' s' accepted').meant)) in
+    let r = right a' (settings_of a') (accepted' ∙ ap Ok (sym (passed a' s' accepted').meant)) in
     subst (λ (x : RawSettings). WholePayload x q → ((n : ℕ) → n < symbols_of s → SameSymbol s (symbols_of_frame a p out n) (symbols_of_frame x q out' n))
     → (a.seed ≡ x.seed) × (take a.length p ≡ take a.length q))
     (ap (λ (o : OpenSettings). with_seed o a'.seed) same)
     (λ w e. subst (ToldApart a (with_seed (without_seed a) a'.seed) p q out out') meant
-    (meant_told a (accepted ∙ ap Accepted (sym meant)) a'.seed r.seed_some (omega (arith, r.seed_most)) p q w1 w out out') room e)
+    (meant_told a (accepted ∙ ap Ok (sym meant)) a'.seed r.seed_some (omega (arith, r.seed_most)) p q w1 w out out') room e)
     w2 equal

@@ -1,4 +1,7 @@
 -- Demand 3: a term for each sentence of specs/Demand3. Assumes nothing.
+use Rattle.std.specs.Prelude.{Err, Ok, Result}
+use Rattle.query.specs.declared.query.Carried.{Carried}
+use Rattle.settings.specs.declared.settings.Refusal.{Refusal}
 use mathlib.Core.Path.{◌≡◌, ◌∙◌, refl, sym, ap, subst}
 use mathlib.Core.Bool.{Bool, true, false, cond, ◌||◌}
 use mathlib.Core.List.{List, ◌++◌}
@@ -18,16 +21,12 @@ use Rattle.chain.proofs.LabelLaws.{half_lt, halves_local}
 use Rattle.chain.proofs.DifferenceLaws.{halves_differ}
 use Rattle.settings.specs.declared.settings.RawSettings.{RawSettings}
 use Rattle.settings.specs.declared.settings.Settings.{Settings}
-use Rattle.settings.specs.declared.settings.Checked.{Checked}
-use Rattle.settings.specs.declared.settings.Checked.TheVariants.{Accepted, Refused}
 use Rattle.settings.specs.declared.settings.Refusal.TheVariants.{Place, Room}
 use Rattle.settings.specs.Settings.{check_of, plan_for, Right}
 use Rattle.symbols.specs.Symbols.{symbols_of, count_of}
 use Rattle.settings.proofs.SettingsLaws.{passed, right, plan_fits, planned_width}
 use Rattle.symbols.proofs.CountLaws.{symbols_least, symbols_some}
 use Rattle.signal.specs.HtSig.{sig_bytes, fields_of, written_of, written_into}
-use Rattle.signal.specs.declared.ht_sig.Written.{Written}
-use Rattle.signal.specs.declared.ht_sig.Written.TheVariants.{Done, Refused as WriteRefused}
 use Rattle.subcarriers.specs.declared.layout.Use.{Use}
 use Rattle.subcarriers.specs.declared.layout.Use.TheVariants.{Silent, Pilot, Data}
 use Rattle.subcarriers.specs.Subcarriers.{use_of, outside, Inside, subcarrier_at}
@@ -36,9 +35,6 @@ use Rattle.mapper.specs.Levels.{Levels, carrier_levels, point_of}
 use Rattle.pilots.specs.Pilots.{pilot_sign}
 use Rattle.modulator.specs.Symbol.{stream_floats, symbol_float}
 use Rattle.modulator.proofs.SymbolLaws.{symbol_ext, pilot_same, label_shown}
-use Rattle.frame.specs.declared.points.PointsAnswer.{PointsAnswer}
-use Rattle.query.specs.declared.query.QueryAnswer.{QueryAnswer}
-use Rattle.query.specs.declared.query.QueryAnswer.TheVariants.{Carries, Refused as QueryRefused}
 use Rattle.frame.specs.Points.{input_of, labels_of, point_float, floats_of, points_of, points_into, points_number}
 use Rattle.frame.specs.Compared.{SameBits, SameLevel}
 use Rattle.query.specs.Query.{carried_by, carried_of, not_in_frame, query_of, query_number}
@@ -53,54 +49,54 @@ pub same_count : Counts
 same_count a a' e = ap (λ (b : RawSettings). count_of (check_of b)) e
 
 -- the six bytes do not depend on what was in the slice
-same_six_written : (k : Checked) (out out' : List ℕ) → length out ≡ length out'
+same_six_written : (k : Result Settings Refusal) (out out' : List ℕ) → length out ≡ length out'
     → (written_of k (length out) ≡ written_of k (length out'))
-    × (written_of k (length out) ≡ Done → (j : ℕ) → j < 6 → get_or (written_into k out) j 0 ≡ get_or (written_into k out') j 0)
+    × (written_of k (length out) ≡ Ok (tt {0}) → (j : ℕ) → j < 6 → get_or (written_into k out) j 0 ≡ get_or (written_into k out') j 0)
 unfolding sig_bytes
-same_six_written (Accepted s) out out' e = (ap (written_of (Accepted s)) e, go (ltb (length out) 6) refl)
+same_six_written (Ok s) out out' e = (ap (written_of (Ok s)) e, go (ltb (length out) 6) refl)
   where
     sig : List ℕ
     sig = sig_bytes (fields_of s)
 
-    go : (b : Bool) → ltb (length out) 6 ≡ b → cond b (WriteRefused Room) Done ≡ Done
-        → (j : ℕ) → j < 6 → get_or (cond b out (sig ++ drop 6 out)) j 0 ≡ get_or (written_into (Accepted s) out') j 0
+    go : (b : Bool) → ltb (length out) 6 ≡ b → cond b (Err Room) (Ok (tt {0})) ≡ Ok (tt {0})
+        → (j : ℕ) → j < 6 → get_or (cond b out (sig ++ drop 6 out)) j 0 ≡ get_or (written_into (Ok s) out') j 0
     go true t q j h = let z : ◌≡◌ {A = ℕ} 0 1 = cc in absurd (omega (arith, z))
     go false t q j h =
         let t' : ltb (length out') 6 ≡ false = rw e at t in
         simp t' (get_or-append sig (drop 6 out) 0 j h ∙ sym (get_or-append sig (drop 6 out') 0 j h))
-same_six_written (Refused r) out out' e = (refl, λ q j h. let z : ◌≡◌ {A = ℕ} 0 1 = cc in absurd (omega (arith, z)))
+same_six_written (Err r) out out' e = (refl, λ q j h. let z : ◌≡◌ {A = ℕ} 0 1 = cc in absurd (omega (arith, z)))
 
 pub same_signal : Signals
 same_signal a a' out out' e room =
     subst (λ (b : RawSettings). (written_of (check_of a) (length out) ≡ written_of (check_of b) (length out'))
-    × (written_of (check_of a) (length out) ≡ Done → (j : ℕ) → j < 6 → get_or (written_into (check_of a) out) j 0 ≡ get_or (written_into (check_of b) out') j 0))
+    × (written_of (check_of a) (length out) ≡ Ok tt → (j : ℕ) → j < 6 → get_or (written_into (check_of a) out) j 0 ≡ get_or (written_into (check_of b) out') j 0))
     e (same_six_written (check_of a) out out' room)
 
 -- whole payloads get the same answer of the points call
-same_number : (a : RawSettings) (k : Checked) → check_of a ≡ k → (p q : List ℕ) (n room room' : ℕ) → a.length ≤ length p → a.length ≤ length q → room ≡ room'
+same_number : (a : RawSettings) (k : Result Settings Refusal) → check_of a ≡ k → (p q : List ℕ) (n room room' : ℕ) → a.length ≤ length p → a.length ≤ length q → room ≡ room'
     → points_number (points_of k (length p) n room) ≡ points_number (points_of k (length q) n room')
-same_number a (Accepted s) e p q n room room' hp hq same =
+same_number a (Ok s) e p q n room room' hp hq same =
     let l = length_is a s e in
     ap points_number (same_answer s (length p) (length q) n room room' (omega (arith, l)) (omega (arith, l)) same)
-same_number a (Refused r) e p q n room room' hp hq same = refl
+same_number a (Err r) e p q n room room' hp hq same = refl
 
 -- two answers of one frame's calls, of a number that is 0
-both_given : (a : RawSettings) (s : Settings) → check_of a ≡ Accepted s → (p q : List ℕ) (n room room' : ℕ) → a.length ≤ length p → a.length ≤ length q → room ≡ room'
+both_given : (a : RawSettings) (s : Settings) → check_of a ≡ Ok s → (p q : List ℕ) (n room room' : ℕ) → a.length ≤ length p → a.length ≤ length q → room ≡ room'
     → points_number (points_of (check_of a) (length p) n room) ≡ 0 → Given s (length p) n room × Given s (length q) n room'
 both_given a s e p q n room room' hp hq same z =
-    let first : points_number (points_of (Accepted s) (length p) n room) ≡ 0 = rw e at z in
+    let first : points_number (points_of (Ok s) (length p) n room) ≡ 0 = rw e at z in
     let l = length_is a s e in (
       given s (length p) n room first,
       given s (length q) n room' (ap points_number (same_answer s (length q) (length p) n room' room (omega (arith, l)) (omega (arith, l)) (sym same)) ∙ first),
     )
 
 -- a level of the slice after the call
-level_is : (a : RawSettings) (s : Settings) → check_of a ≡ Accepted s → (p : List ℕ) (n : ℕ) (out : List Float) → Given s (length p) n (length out)
+level_is : (a : RawSettings) (s : Settings) → check_of a ≡ Ok s → (p : List ℕ) (n : ℕ) (out : List Float) → Given s (length p) n (length out)
     → (g : ℕ) → g < floats_of s → get_or (points_into (check_of a) p n out) g nan ≡ point_float s p n g
 level_is a s e p n out ok g h = rw e (level_at s p n out ok g h)
 
 -- levels are the same by their bits where the floats are
-same_level : (a : RawSettings) (s : Settings) → check_of a ≡ Accepted s → (p q : List ℕ) (n : ℕ) (out out' : List Float)
+same_level : (a : RawSettings) (s : Settings) → check_of a ≡ Ok s → (p q : List ℕ) (n : ℕ) (out out' : List Float)
     → Given s (length p) n (length out) → Given s (length q) n (length out') → (g : ℕ) → g < floats_of s → point_float s p n g ≡ point_float s q n g
     → SameLevel (points_into (check_of a) p n out) (points_into (check_of a) q n out') g
 same_level a s e p q n out out' ok ok' g h same =
@@ -108,7 +104,7 @@ same_level a s e p q n out out' ok ok' g h same =
 
 -- the pilots' levels after two calls
 pilots_of_lem : (a : RawSettings) (p q : List ℕ) (n : ℕ) (out out' : List Float) → WholePayload a p → WholePayload a q → length out ≡ length out'
-    → (s : Settings) → check_of a ≡ Accepted s → points_number (points_of (check_of a) (length p) n (length out)) ≡ 0
+    → (s : Settings) → check_of a ≡ Ok s → points_number (points_of (check_of a) (length p) n (length out)) ≡ 0
     → SamePilots s (points_into (check_of a) p n out) (points_into (check_of a) q n out')
 pilots_of_lem a p q n out out' wp wq room s e z i f k axis hi hf hx told =
     let ok = both_given a s e p q n (length out) (length out') wp.0 wq.0 room z in
@@ -125,16 +121,16 @@ same_points a a' p q n out out' e =
     (λ _ wp wq room. (same_number a (check_of a) refl p q n (length out) (length out') wp.0 wq.0 room, pilots_of_lem a p q n out out' wp wq room)) e
 
 -- what a use carries is of one kind whatever the half labels are
-kind_same : (sign : ℕ → ℤ) (f g : ℕ → Levels) (u : Use) → SameKind (Carries (carried_by sign f u)) (Carries (carried_by sign g u))
+kind_same : (sign : ℕ → ℤ) (f g : ℕ → Levels) (u : Use) → SameKind (Ok (carried_by sign f u)) (Ok (carried_by sign g u))
 kind_same sign f g Silent = refl
 kind_same sign f g (Pilot q) = refl
 kind_same sign f g (Data c) = (point_of (g c), refl)
 
 -- and so are the answers of two questions, with the same number
-query_kind : (a : RawSettings) (k : Checked) → check_of a ≡ k → (p q : List ℕ) (n i : ℕ) (z : ℤ) → a.length ≤ length p → a.length ≤ length q
+query_kind : (a : RawSettings) (k : Result Settings Refusal) → check_of a ≡ k → (p q : List ℕ) (n i : ℕ) (z : ℤ) → a.length ≤ length p → a.length ≤ length q
     → (query_number (query_of k p n i z) ≡ query_number (query_of k q n i z)) × SameKind (query_of k p n i z) (query_of k q n i z)
 unfolding carried_of
-query_kind a (Accepted s) e p q n i z hp hq =
+query_kind a (Ok s) e p q n i z hp hq =
     let l = length_is a s e in
     let tp : ltb (length p) s.length ≡ false = le-ltb (length p) s.length (omega (arith, l)) in
     let tq : ltb (length q) s.length ≡ false = le-ltb (length q) s.length (omega (arith, l)) in
@@ -143,11 +139,11 @@ query_kind a (Accepted s) e p q n i z hp hq =
     sign : ℕ → ℤ
     sign = pilot_sign (plan_for s).width (plan_for s).streams s.format n i
 
-    go : (b : Bool) → (query_number (cond b (QueryRefused Place) (Carries (carried_of s p n i z))) ≡ query_number (cond b (QueryRefused Place) (Carries (carried_of s q n i z))))
-        × SameKind (cond b (QueryRefused Place) (Carries (carried_of s p n i z))) (cond b (QueryRefused Place) (Carries (carried_of s q n i z)))
+    go : (b : Bool) → (query_number (cond b (Err Place) (Ok (carried_of s p n i z))) ≡ query_number (cond b (Err Place) (Ok (carried_of s q n i z))))
+        × SameKind (cond b (Err Place) (Ok (carried_of s p n i z))) (cond b (Err Place) (Ok (carried_of s q n i z)))
     go true = (refl, refl)
     go false = (refl, kind_same sign (carrier_levels (plan_for s).bits (labels_of s p n i)) (carrier_levels (plan_for s).bits (labels_of s q n i)) (use_of (plan_for s).width z))
-query_kind a (Refused r) e p q n i z hp hq = (refl, refl)
+query_kind a (Err r) e p q n i z hp hq = (refl, refl)
 
 pub same_query : OfQueries SameQuery
 same_query a a' p q n i z e =
@@ -170,17 +166,17 @@ local_points a a' p q n out out' e =
 
 -- the question's answer is the same where the half labels are
 query_local : (s : Settings) → Right s → (p q : List ℕ) (n i : ℕ) (z : ℤ) → s.length ≤ length p → s.length ≤ length q → AgreeWhereLooked s n p q
-    → query_of (Accepted s) p n i z ≡ query_of (Accepted s) q n i z
+    → query_of (Ok s) p n i z ≡ query_of (Ok s) q n i z
 query_local s r p q n i z hp hq agree =
     simp (le-ltb (length p) s.length hp, le-ltb (length q) s.length hq) (go (leb (symbols_of s) n) (leb (plan_for s).streams i) (outside (plan_for s).width z) refl refl)
   where
     go : (t u v : Bool) → leb (plan_for s).streams i ≡ u → outside (plan_for s).width z ≡ v
-        → cond (t || (u || v)) (QueryRefused Place) (Carries (carried_of s p n i z)) ≡ cond (t || (u || v)) (QueryRefused Place) (Carries (carried_of s q n i z))
+        → cond (t || (u || v)) (Err Place) (Ok (carried_of s p n i z)) ≡ cond (t || (u || v)) (Err Place) (Ok (carried_of s q n i z))
     go true u v eu ev = refl
     go false true v eu ev = refl
     go false false true eu ev = refl
     go false false false eu ev =
-        ap Carries (carried_same s r p q n i z ev (λ m l. halves_same s r p q n agree i m (leb-false (plan_for s).streams i eu) l))
+        ap Ok (carried_same s r p q n i z ev (λ m l. halves_same s r p q n agree i m (leb-false (plan_for s).streams i eu) l))
 
 pub local_query : OfQueries LocalQuery
 local_query a a' p q n i z e =
@@ -237,7 +233,7 @@ module _ (s s' : Settings) (r : Right s) (plans : plan_for s ≡ plan_for s') (f
       }
 
 -- in the slices after the calls
-slices_differ : (a a' : RawSettings) (s s' : Settings) → check_of a ≡ Accepted s → check_of a' ≡ Accepted s' → (p q : List ℕ) (n : ℕ) (out out' : List Float)
+slices_differ : (a a' : RawSettings) (s s' : Settings) → check_of a ≡ Ok s → check_of a' ≡ Ok s' → (p q : List ℕ) (n : ℕ) (out out' : List Float)
     → Given s (length p) n (length out) → Given s' (length q) n (length out') → floats_of s ≡ floats_of s'
     → Shown s s' p q n → DifferentSymbol s (points_into (check_of a) p n out) (points_into (check_of a') q n out')
 slices_differ a a' s s' e e' p q n out out' ok ok' floats d = (
@@ -252,7 +248,7 @@ slices_differ a a' s s' e e' p q n out out' ok ok' floats d = (
 )
 
 -- in the question's answers
-answers_differ : (a a' : RawSettings) (s s' : Settings) → check_of a ≡ Accepted s → check_of a' ≡ Accepted s' → plan_for s ≡ plan_for s'
+answers_differ : (a a' : RawSettings) (s s' : Settings) → check_of a ≡ Ok s → check_of a' ≡ Ok s' → plan_for s ≡ plan_for s'
     → (p q : List ℕ) (n : ℕ) → s.length ≤ length p → s'.length ≤ length q → n < symbols_of s → n < symbols_of s' → Shown s s' p q n
     → (i : ℕ) × ((z : ℤ) × ((i < (plan_for s).streams) × DifferentPoints (query_of (check_of a) p n i z) (query_of (check_of a') q n i z)))
 answers_differ a a' s s' e e' plans p q n hp hq hn hn' d =
@@ -283,9 +279,9 @@ answers_differ a a' s s' e e' plans p q n hp hq hn hn' d =
             (
               y,
               (
-                rw e (answered s p n i z asked ∙ ap Carries (carried_data s p n i c z at.carries)),
+                rw e (answered s p n i z asked ∙ ap Ok (carried_data s p n i c z at.carries)),
                 (
-                  rw e' (answered s' q n i z asked' ∙ ap Carries (carried_data s' q n i c z (subst (λ (v : Plan). use_of v.width z ≡ Data c) plans at.carries))),
+                  rw e' (answered s' q n i z asked' ∙ ap Ok (carried_data s' q n i c z (subst (λ (v : Plan). use_of v.width z ≡ Data c) plans at.carries))),
                   d.points_apart,
                 ),
               ),
@@ -298,7 +294,7 @@ answers_differ a a' s s' e e' plans p q n hp hq hn hn' d =
 -- ---- (c)
 
 -- the symbol of the first differing bit shows it
-payload_shown : (a : RawSettings) (s : Settings) → check_of a ≡ Accepted s → (p q : List ℕ) (d : ℕ) → FirstDiffering a p q d → Shown s s p q (d / (plan_for s).dbps)
+payload_shown : (a : RawSettings) (s : Settings) → check_of a ≡ Ok s → (p q : List ℕ) (d : ℕ) → FirstDiffering a p q d → Shown s s p q (d / (plan_for s).dbps)
 payload_shown a s e p q d (low, (high, (apart, lower))) =
     let r = right a s e in
     let l = length_is a s e in
@@ -366,7 +362,7 @@ pub record OneFrame (s s' : Settings) : Type 0 where
   pub formats : s.format ≡ s'.format
   pub seeds : s.seed ≡ s'.seed → ⊥
 
-one_frame : (a a' : RawSettings) (s s' : Settings) → check_of a ≡ Accepted s → check_of a' ≡ Accepted s' → EqualButSeed a a' → OneFrame s s'
+one_frame : (a a' : RawSettings) (s s' : Settings) → check_of a ≡ Ok s → check_of a' ≡ Ok s' → EqualButSeed a a' → OneFrame s s'
 unfolding plan_for
 one_frame a a' s s' e e' (w, (m, (f, (l, (d, others))))) =
     let t = (passed a s e).meant in
@@ -409,26 +405,26 @@ seeds_shown a a' p q s s' e e' but wp wq =
 
 pub seed_points : OfPoints SeedPoints
 seed_points a a' p q n out out' but wp wq room s s' e e' zero-th z =
-    let first : points_number (points_of (Accepted s) (length p) n (length out)) ≡ 0 = rw e at z in
+    let first : points_number (points_of (Ok s) (length p) n (length out)) ≡ 0 = rw e at z in
     let ok = given s (length p) n (length out) first in
     rw zero-th ((seeds_shown a a' p q s s' e e' but wp wq).0 out out' room ok.room_enough)
 
 -- ---- of answers and slices that are those of the calls, by the calls' promises
 
-pub of_signals : (a a' : RawSettings) (out out' : List ℕ) (r r' : Written) (l l' : List ℕ)
+pub of_signals : (a a' : RawSettings) (out out' : List ℕ) (r r' : Result (Unit {0}) Refusal) (l l' : List ℕ)
     → r ≡ written_of (check_of a) (length out) → r' ≡ written_of (check_of a') (length out') → l ≡ written_into (check_of a) out → l' ≡ written_into (check_of a') out'
     → SameSignal a a' out out' r r' l l'
 of_signals a a' out out' r r' l l' er er' el el' = rw (er, er', el, el') (same_signal a a' out out')
 
-pub of_points : (Sentence : (a a' : RawSettings) (p q : List ℕ) (n : ℕ) (out out' : List Float) (r r' : PointsAnswer) (l l' : List Float) → Type 0) → OfPoints Sentence
-    → (a a' : RawSettings) (p q : List ℕ) (n : ℕ) (out out' : List Float) (r r' : PointsAnswer) (l l' : List Float)
+pub of_points : (Sentence : (a a' : RawSettings) (p q : List ℕ) (n : ℕ) (out out' : List Float) (r r' : Result ℕ Refusal) (l l' : List Float) → Type 0) → OfPoints Sentence
+    → (a a' : RawSettings) (p q : List ℕ) (n : ℕ) (out out' : List Float) (r r' : Result ℕ Refusal) (l l' : List Float)
     → r ≡ points_of (check_of a) (length p) n (length out) → r' ≡ points_of (check_of a') (length q) n (length out')
     → l ≡ points_into (check_of a) p n out → l' ≡ points_into (check_of a') q n out'
     → Sentence a a' p q n out out' r r' l l'
 of_points Sentence term a a' p q n out out' r r' l l' er er' el el' = rw (er, er', el, el') (term a a' p q n out out')
 
-pub of_queries : (Sentence : (a a' : RawSettings) (p q : List ℕ) (n : ℕ) (r r' : QueryAnswer) → Type 0) → OfQueries Sentence
-    → (a a' : RawSettings) (p q : List ℕ) (n i : ℕ) (z : ℤ) (r r' : QueryAnswer)
+pub of_queries : (Sentence : (a a' : RawSettings) (p q : List ℕ) (n : ℕ) (r r' : Result Carried Refusal) → Type 0) → OfQueries Sentence
+    → (a a' : RawSettings) (p q : List ℕ) (n i : ℕ) (z : ℤ) (r r' : Result Carried Refusal)
     → r ≡ query_of (check_of a) p n i z → r' ≡ query_of (check_of a') q n i z → Sentence a a' p q n r r'
 of_queries Sentence term a a' p q n i z r r' er er' = rw (er, er') (term a a' p q n i z)
 

@@ -1,5 +1,8 @@
 -- What the sentences of demand 2 mean to the reader's laws: a symbol that the points call gives has the floats of the frame's payload bits, and the other
 -- way. Assumes that the reader was begun.
+use Rattle.std.specs.Prelude.{Err, Ok, Result}
+use Rattle.settings.specs.declared.settings.Refusal.{Refusal}
+use Rattle.settings.specs.declared.settings.Settings.{Settings}
 use mathlib.Core.Path.{◌≡◌, ◌∙◌, refl, sym, ap}
 use mathlib.Core.Bool.{false}
 use mathlib.Core.List.{List}
@@ -12,8 +15,6 @@ use Rattle.laws.specs.Firsts.{firsts}
 use Rattle.laws.proofs.Firsts.{length_firsts}
 use Rattle.chain.specs.DataBits.{payload_bit}
 use Rattle.chain.specs.Labels.{half_label}
-use Rattle.settings.specs.declared.settings.Checked.{Checked}
-use Rattle.settings.specs.declared.settings.Checked.TheVariants.{Accepted, Refused}
 use Rattle.settings.specs.Settings.{bad_seed, settings_of, check_of, plan_for}
 use Rattle.settings.proofs.SettingsLaws.{accepted_is, passed}
 use Rattle.symbols.specs.Symbols.{symbols_of}
@@ -21,31 +22,29 @@ use Rattle.modulator.specs.Symbol.{symbol_float}
 use Rattle.frame.specs.Points.{point_float, floats_of, points_of, points_into, points_number}
 use Rattle.frame.proofs.PointsLaws.{points_by}
 use Rattle.reader_state.specs.declared.state.OpenSettings.{OpenSettings}
-use Rattle.reader_state.specs.declared.state.StartAnswer.{StartAnswer}
-use Rattle.reader_state.specs.declared.state.StartAnswer.TheVariants.{Ready, Refused as StartRefused}
 use Rattle.reader_state.specs.State.{with_seed, open_raw, start_by}
 use Rattle.reader_runs.specs.Sent.{settings_for, sent_input, FloatsSent}
 use Rattle.demands.specs.Demand2.{Begun, GivesSymbol}
 use Rattle.demands.proofs.Calls.{Given, given, level_at}
 
 -- "begun by its start": the settings are accepted
-abbrev is_ready : StartAnswer → ℕ
-is_ready Ready = 1
-is_ready (StartRefused r) = 0
+abbrev is_ready : Result (Unit {0}) Refusal → ℕ
+is_ready (Ok tt) = 1
+is_ready (Err r) = 0
 
-pub begun_ready : (o : OpenSettings) → Begun o → check_of (open_raw o) ≡ Accepted (settings_for o)
+pub begun_ready : (o : OpenSettings) → Begun o → check_of (open_raw o) ≡ Ok (settings_for o)
 begun_ready o = go (check_of (open_raw o)) refl
   where
-    go : (x : Checked) → check_of (open_raw o) ≡ x → (start_by x o).answer ≡ Ready → check_of (open_raw o) ≡ Accepted (settings_for o)
-    go (Accepted s) e begun = e ∙ ap Accepted (sym (passed (open_raw o) s e).meant)
-    go (Refused r) e begun = absurd (let n : ◌≡◌ {A = ℕ} 0 1 = ap is_ready begun in omega (arith, n))
+    go : (x : Result Settings Refusal) → check_of (open_raw o) ≡ x → (start_by x o).answer ≡ Ok tt → check_of (open_raw o) ≡ Ok (settings_for o)
+    go (Ok s) e begun = e ∙ ap Ok (sym (passed (open_raw o) s e).meant)
+    go (Err r) e begun = absurd (let n : ◌≡◌ {A = ℕ} 0 1 = ap is_ready begun in omega (arith, n))
 
-module _ (o : OpenSettings) (ready : check_of (open_raw o) ≡ Accepted (settings_for o)) (seed : ℕ) (some : 1 ≤ seed) (most : seed ≤ 127) where
+module _ (o : OpenSettings) (ready : check_of (open_raw o) ≡ Ok (settings_for o)) (seed : ℕ) (some : 1 ≤ seed) (most : seed ≤ 127) where
   seed_passes : bad_seed (with_seed o seed) ≡ false
   seed_passes = simp (ne_eqb seed 0 (λ e. omega (arith, e, some)), le-ltb 127 seed most)
 
   -- with a seed the settings are accepted too
-  pub seeded : check_of (with_seed o seed) ≡ Accepted (settings_of (with_seed o seed))
+  pub seeded : check_of (with_seed o seed) ≡ Ok (settings_of (with_seed o seed))
   seeded =
       let p = passed (open_raw o) (settings_for o) ready in
       sym (accepted_is (with_seed o seed) p.width p.mcs p.format p.length seed_passes)
@@ -70,7 +69,7 @@ module _ (o : OpenSettings) (ready : check_of (open_raw o) ≡ Accepted (setting
   pub gives_inside : (p : List ℕ) (n : ℕ) (points : List Float) → GivesSymbol o seed p n points → n < symbols_of (settings_for o)
   gives_inside p n points gives =
       let g = given (settings_of (with_seed o seed)) (length p) n (length lent)
-      (ap (λ (x : Checked). points_number (points_of x (length p) n (length lent))) (sym seeded) ∙ (gives lent lent_room).0) in
+      (ap (λ (x : Result Settings Refusal). points_number (points_of x (length p) n (length lent))) (sym seeded) ∙ (gives lent lent_room).0) in
       omega (arith, g.in_frame, one_count)
 
   module _ (p : List ℕ) (n : ℕ) (whole : o.length ≤ length p) (inside : n < symbols_of (settings_for o)) where
@@ -88,7 +87,7 @@ module _ (o : OpenSettings) (ready : check_of (open_raw o) ≡ Accepted (setting
     pub written_is : (out : List Float) → floats_of (settings_for o) ≤ length out → (g : ℕ) → g < floats_of (settings_for o)
         → get_or (points_into (check_of (with_seed o seed)) p n out) g nan ≡ sentFloat g
     written_is out room g h =
-        ap (λ (x : Checked). get_or (points_into x p n out) g nan) seeded
+        ap (λ (x : Result Settings Refusal). get_or (points_into x p n out) g nan) seeded
         ∙ level_at (settings_of (with_seed o seed)) p n out (given_in out room) g (omega (arith, h, one_size))
         ∙ same_float g
 

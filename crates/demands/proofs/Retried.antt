@@ -1,5 +1,6 @@
 -- Demand 2 of runs in which any steps are 8: a term for each sentence of specs/Retried. Such a run goes through the states of the run of
 -- those of its attempts that are not 8, for which demand 2 is proved. Assumes nothing.
+use Rattle.std.specs.Prelude.{None, Ok, Some}
 use mathlib.Core.Path.{◌≡◌, ◌∙◌, refl, sym, ap, subst}
 use mathlib.Core.Bool.{Bool, true, false, cond}
 use mathlib.Core.List.{List}
@@ -19,7 +20,6 @@ use Rattle.symbols.specs.Symbols.{symbols_of}
 use Rattle.frame.specs.Points.{floats_of}
 use Rattle.reader_state.specs.declared.state.OpenSettings.{OpenSettings}
 use Rattle.reader_state.specs.declared.state.Reader.{Reader}
-use Rattle.acceptance.specs.declared.accept.StepAnswer.TheVariants.{First, Next}
 use Rattle.acceptance.specs.declared.accept.Stepped.{Stepped}
 use Rattle.reader_state.specs.State.{open_raw}
 use Rattle.reader.specs.Step.{step_of, step_into, step_number}
@@ -271,7 +271,7 @@ retried_returns o S M K begun seed p frame gives k l tried =
     let below : n < symbols o S M K = count_below (number o S M) k K l tried in
     to_attempt o S M
     (λ t points slice.
-    ((step_of t points (length slice)).answer ≡ cond (eqb n 0) (First seed) Next) × LeavesBytes o p n slice (step_into t points slice))
+    ((step_of t points (length slice)).answer ≡ cond (eqb n 0) (Ok (Some seed)) (Ok None)) × LeavesBytes o p n slice (step_into t points slice))
     K k l tried
     (demand_2b o (points_of o S M K) (slicesOf o S M K) (symbols o S M K - 1) begun (omega (arith, below, few o S M K all begun))
     (λ m b. (taken o S M K all m (omega (arith, b, below))).0) seed p frame

@@ -1,20 +1,17 @@
 -- Demand 2 of the reader: "The reader, begun by its start and handed back each state as it was returned, accepts symbols exactly when some payload and seed
 -- give them, and returns that payload and seed." The terms are in proofs/Demand2; `read_frame` (crate frame_reader) promises the same of its own slices.
-use Rattle.std.specs.Prelude.{◌≡◌, cond, List, ◌++◌, ◌↔◌, ◌⊎◌, ℕ, ◌+◌, ◌*◌, ◌<◌, ◌≤◌, eqb, length, get_or, take, drop, Float}
+use Rattle.acceptance.specs.declared.accept.StepRefusal.{StepRefusal}
+use Rattle.std.specs.Prelude.{◌≡◌, cond, List, ◌++◌, ◌↔◌, ◌⊎◌, ℕ, ◌+◌, ◌*◌, ◌<◌, ◌≤◌, eqb, length, get_or, take, drop, Float, None, Ok, Option, Result, Some}
 use Rattle.laws.specs.Bytes.{AreBytes}
 use Rattle.chain.specs.DataBits.{payload_bit}
 use Rattle.settings.specs.declared.settings.RawSettings.{RawSettings}
 use Rattle.settings.specs.declared.settings.Settings.{Settings}
-use Rattle.settings.specs.declared.settings.Checked.TheVariants.{Accepted}
 use Rattle.settings.specs.Settings.{check_of, plan_for}
 use Rattle.symbols.specs.Symbols.{symbols_of}
 use Rattle.frame.specs.Points.{floats_of, points_of, points_into, points_number}
 use Rattle.frame.specs.Compared.{SameSymbol}
 use Rattle.reader_state.specs.declared.state.OpenSettings.{OpenSettings}
-use Rattle.reader_state.specs.declared.state.StartAnswer.TheVariants.{Ready}
 use Rattle.reader_state.specs.declared.state.Reader.{Reader}
-use Rattle.acceptance.specs.declared.accept.StepAnswer.{StepAnswer}
-use Rattle.acceptance.specs.declared.accept.StepAnswer.TheVariants.{First, Next}
 use Rattle.reader_state.specs.State.{with_seed, start_of}
 use Rattle.acceptance.specs.Accepted.{bits_before}
 use Rattle.reader.specs.Step.{step_of, step_number}
@@ -26,7 +23,7 @@ use Rattle.demands.specs.Frames.{WholePayload}
 
 -- "begun by its start"
 abbrev pub Begun : OpenSettings → Type 0
-Begun o = (start_of o).answer ≡ Ready
+Begun o = (start_of o).answer ≡ Ok tt
 
 -- "some payload and seed": a seed of 1 to 127, and as many bytes as the settings' length says
 abbrev pub IsFrame : (o : OpenSettings) (seed : ℕ) (p : List ℕ) → Type 0
@@ -47,7 +44,7 @@ abbrev pub RoomAt : (o : OpenSettings) (S : ℕ → List Float) (M : ℕ → Lis
 RoomAt o S M n = (floats_of (settings_for o) ≤ length (S n)) × (o.length ≤ length (M n))
 
 -- "accepts"
-abbrev pub Accepts : StepAnswer → Type 0
+abbrev pub Accepts : Result (Option ℕ) StepRefusal → Type 0
 Accepts a = step_number a ≡ 0
 
 -- byte j is complete with symbol n and was not before it: its last bit, data bit 16 + 8j + 7, is one of the symbol's own
@@ -73,7 +70,7 @@ abbrev pub Demand2b : Type 0
 Demand2b = (o : OpenSettings) (S : ℕ → List Float) (M : ℕ → List ℕ) (m : ℕ) → Begun o → m < symbols_of (settings_for o) → ((n : ℕ) → n ≤ m → RoomAt o S M n)
     → (seed : ℕ) (p : List ℕ) → IsFrame o seed p → ((n : ℕ) → n ≤ m → GivesSymbol o seed p n (S n))
     → (n : ℕ) → n ≤ m
-    → (answer_to o S (lengths M) n ≡ cond (eqb n 0) (First seed) Next)
+    → (answer_to o S (lengths M) n ≡ cond (eqb n 0) (Ok (Some seed)) (Ok None))
     × LeavesBytes o p n (M n) (slice_after o S (lengths M) n (M n))
 
 -- ---- (c) "that payload and seed": there are no two. The seed and every byte complete by symbol m are told by symbols 0 to m, and the whole payload at the end
@@ -146,15 +143,15 @@ abbrev pub symbols_of_frame : (a : RawSettings) (p : List ℕ) (out : ℕ → Li
 symbols_of_frame a p out n = points_into (check_of a) p n (out n)
 
 abbrev pub Demand2f : Type 0
-Demand2f = (a : RawSettings) (p : List ℕ) (s : Settings) → check_of a ≡ Accepted s → WholePayload a p
+Demand2f = (a : RawSettings) (p : List ℕ) (s : Settings) → check_of a ≡ Ok s → WholePayload a p
     → (out : ℕ → List Float) → ((n : ℕ) → floats_of s ≤ length (out n)) → (slice : List ℕ) → a.length ≤ length slice
     → ((n : ℕ) → n < symbols_of s
-    → answer_to (without_seed a) (symbols_of_frame a p out) (λ k. length slice) n ≡ cond (eqb n 0) (First a.seed) Next)
+    → answer_to (without_seed a) (symbols_of_frame a p out) (λ k. length slice) n ≡ cond (eqb n 0) (Ok (Some a.seed)) (Ok None))
     × (memory_before (without_seed a) (symbols_of_frame a p out) (λ k. length slice) (symbols_of s) slice ≡ take a.length p ++ drop a.length slice)
 
 -- ---- (g) corollary: two accepted frames, equal in every setting but the seed, whose symbols are all equal have equal payloads and seeds
 abbrev pub Demand2g : Type 0
-Demand2g = (a a' : RawSettings) (p q : List ℕ) (s s' : Settings) → check_of a ≡ Accepted s → check_of a' ≡ Accepted s' → without_seed a ≡ without_seed a'
+Demand2g = (a a' : RawSettings) (p q : List ℕ) (s s' : Settings) → check_of a ≡ Ok s → check_of a' ≡ Ok s' → without_seed a ≡ without_seed a'
     → WholePayload a p → WholePayload a' q
     → (out out' : ℕ → List Float) → ((n : ℕ) → (floats_of s ≤ length (out n)) × (floats_of s ≤ length (out' n)))
     → ((n : ℕ) → n < symbols_of s → SameSymbol s (symbols_of_frame a p out n) (symbols_of_frame a' q out' n))

@@ -1,5 +1,7 @@
 -- The words of demand 3 (document 01, 'What each answer owes'): two frames and what is said of their symbols.
-use Rattle.std.specs.Prelude.{◌≡◌, List, ℕ, ◌+◌, ◌-◌, ◌*◌, ◌<◌, ◌≤◌, length, get_or, Float}
+use Rattle.query.specs.declared.query.Carried.{Carried}
+use Rattle.settings.specs.declared.settings.Refusal.{Refusal}
+use Rattle.std.specs.Prelude.{◌≡◌, List, ℕ, ◌+◌, ◌-◌, ◌*◌, ◌<◌, ◌≤◌, length, get_or, Float, Ok, Result}
 use Rattle.laws.specs.Bytes.{AreBytes}
 use Rattle.chain.specs.DataBits.{payload_bit}
 use Rattle.mapper.specs.declared.point.Point.{Point}
@@ -7,8 +9,6 @@ use Rattle.settings.specs.declared.settings.Settings.{Settings}
 use Rattle.settings.specs.declared.settings.RawSettings.{RawSettings}
 use Rattle.settings.specs.Settings.{plan_for}
 use Rattle.query.specs.declared.query.Carried.TheVariants.{Data}
-use Rattle.query.specs.declared.query.QueryAnswer.{QueryAnswer}
-use Rattle.query.specs.declared.query.QueryAnswer.TheVariants.{Carries}
 use Rattle.frame.specs.Points.{floats_of}
 use Rattle.frame.specs.Compared.{SameBits, SameLevel}
 
@@ -21,8 +21,8 @@ abbrev pub DifferentSymbol : Settings → (l l' : List Float) → Type 0
 DifferentSymbol s l l' = (g : ℕ) × ((g < floats_of s) × (SameLevel l l' g → ⊥))
 
 -- two answers of the question are data points of which some level differs
-abbrev pub DifferentPoints : (r r' : QueryAnswer) → Type 0
-DifferentPoints r r' = (x : Point) × ((y : Point) × ((r ≡ Carries (Data x)) × ((r' ≡ Carries (Data y))
+abbrev pub DifferentPoints : (r r' : Result Carried Refusal) → Type 0
+DifferentPoints r r' = (x : Point) × ((y : Point) × ((r ≡ Ok (Data x)) × ((r' ≡ Ok (Data y))
     × (SameBits x.first y.first → SameBits x.second y.second → ⊥))))
 
 -- "Symbol n's own are nD to nD + D - 1. The last six steps of each encoder before it take nD - 6·NES to nD - 1; symbol 0 has none before it":

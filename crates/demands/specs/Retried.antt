@@ -3,11 +3,10 @@
 -- is tried again: attempt k has the points S k and is lent the payload slice M k, and it is of the symbol that the attempts before it have
 -- come to. The words are those of specs/Demand2, whose (d) holds after 9, 10 and 11 of these runs as of any. The terms are in
 -- proofs/Retried.
-use Rattle.std.specs.Prelude.{◌≡◌, cond, List, ◌↔◌, ◌⊎◌, ℕ, zero, suc, ◌+◌, ◌*◌, ◌<◌, ◌≤◌, eqb, get_or, Float}
+use Rattle.std.specs.Prelude.{◌≡◌, cond, List, ◌↔◌, ◌⊎◌, ℕ, zero, suc, ◌+◌, ◌*◌, ◌<◌, ◌≤◌, eqb, get_or, Float, None, Ok, Some}
 use Rattle.settings.specs.Settings.{plan_for}
 use Rattle.symbols.specs.Symbols.{symbols_of}
 use Rattle.reader_state.specs.declared.state.OpenSettings.{OpenSettings}
-use Rattle.acceptance.specs.declared.accept.StepAnswer.TheVariants.{First, Next}
 use Rattle.reader.specs.Step.{step_number}
 use Rattle.reader_runs.specs.Run.{state_before, answer_to, slice_after}
 use Rattle.reader_runs.specs.Sent.{settings_for}
@@ -41,7 +40,7 @@ abbrev pub RetriedReturns : Type 0
 RetriedReturns = (o : OpenSettings) (S : ℕ → List Float) (M : ℕ → List ℕ) (K : ℕ) → Begun o
     → (seed : ℕ) (p : List ℕ) → IsFrame o seed p → GivesAttempts o seed p S (attempt_number o S M) K
     → (k : ℕ) → k < K → (attempt_number o S M k ≡ 8 → ⊥) → let n = symbols_before (attempt_number o S M) k in
-    (answer_to o S (lengths M) k ≡ cond (eqb n 0) (First seed) Next) × LeavesBytes o p n (M k) (slice_after o S (lengths M) k (M k))
+    (answer_to o S (lengths M) k ≡ cond (eqb n 0) (Ok (Some seed)) (Ok None)) × LeavesBytes o p n (M k) (slice_after o S (lengths M) k (M k))
 
 -- ---- (c) "that payload and seed": there are no two. The seed and every byte complete by then are told, and the whole payload at the end
 abbrev pub RetriedTells : Type 0

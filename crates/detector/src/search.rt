@@ -10,13 +10,6 @@ use demapper::point::{hear_data, hear_pilot};
 use pilots::pilot::{pilot_sign, polarity_bit};
 use subcarriers::layout::{entry_index, places_of};
 
-// Every point is one the rules give, or the first that is not: its stream and its place among the used subcarriers.
-#[derive(Clone, Copy)]
-pub enum Search {
-    AllGiven,
-    At(usize, usize),
-}
-
 // Whether place f is above 0 at 40 MHz.
 fn is_turned(width: usize, f: usize) -> bool
     ensures { result ≡ (eqb width 40 && leb 57 f) }
@@ -55,8 +48,15 @@ fn hear_place(
     hear_pilot(sign, turned, x, y)
 }
 
-// The label bits of all streams, stream i's block from i·block on, or the first point that is none the rules give.
-pub fn symbol_bits(bits: &mut [u8], points: &[f32], plan: Plan, format: usize, n: usize) -> Search
+// The label bits of all streams, stream i's block from i·block on, or the first point that is none the rules give: its stream and its
+// place among the used subcarriers.
+pub fn symbol_bits(
+    bits: &mut [u8],
+    points: &[f32],
+    plan: Plan,
+    format: usize,
+    n: usize,
+) -> Option<(usize, usize)>
     requires { SymbolBitsAsked bits.old points.now plan n }
     ensures value { result ≡ search_of plan points.now format n }
     ensures bits_shown { BitsShown plan points.now result bits.old bits.new }
@@ -72,9 +72,9 @@ pub fn symbol_bits(bits: &mut [u8], points: &[f32], plan: Plan, format: usize, n
             if !hear_place(
                 bits, points, &levels, &labels, &uses, plan, s, polarity, n, i, f,
             ) {
-                return Search::At(i, f);
+                return Some((i, f));
             }
         }
     }
-    Search::AllGiven
+    None
 }

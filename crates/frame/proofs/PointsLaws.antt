@@ -1,4 +1,5 @@
 -- The points call: a symbol from its half labels, and the answer by the tests. Assumes nothing.
+use Rattle.std.specs.Prelude.{Err, Ok, Result}
 use mathlib.Core.Path.{◌≡◌, ◌∙◌, refl, sym, ap, subst}
 use mathlib.Core.Bool.{Bool, true, false, cond}
 use mathlib.Core.List.{List}
@@ -17,8 +18,6 @@ use Rattle.settings.specs.declared.settings.Refusal.{Refusal}
 use Rattle.settings.specs.declared.settings.Refusal.TheVariants.{Source, Place, Room}
 use Rattle.settings.specs.declared.settings.RawSettings.{RawSettings}
 use Rattle.settings.specs.declared.settings.Settings.{Settings}
-use Rattle.settings.specs.declared.settings.Checked.{Checked}
-use Rattle.settings.specs.declared.settings.Checked.TheVariants.{Accepted, Refused}
 use Rattle.settings.specs.Settings.{check_of, plan_for, Right}
 use Rattle.symbols.specs.Symbols.{symbols_of}
 use Rattle.settings.proofs.SettingsLaws.{right, plan_fits}
@@ -28,8 +27,6 @@ use Rattle.modulator.specs.Asked.{halves_in, SymbolAsked}
 use Rattle.modulator.proofs.SymbolLaws.{symbol_ext}
 use Rattle.frame.specs.Points.{labels_of, point_float, floats_of, points_of, points_into_by, points_into}
 use Rattle.frame.specs.Asked.{LabelsHeld, WriteAsked}
-use Rattle.frame.specs.declared.points.PointsAnswer.{PointsAnswer}
-use Rattle.frame.specs.declared.points.PointsAnswer.TheVariants.{Written, Refused as PointsRefused}
 use Rattle.frame.proofs.FrameLaws.{symbol_near, floats_are, held_small}
 
 module _ (s : Settings) (payload : List ℕ) (n : ℕ) (halves : List ℕ) (held : LabelsHeld s payload n halves) (p : Plan) (e : p ≡ plan_for s) where
@@ -57,27 +54,27 @@ module _ (s : Settings) (payload : List ℕ) (n : ℕ) (halves : List ℕ) (held
       (symbol_ext (plan_for s) (plan_fits s r) (halves_in halves (halves_of (plan_for s))) (labels_of s payload n) s.format n held.held) g
 
 -- the answer and the slice where the settings are refused
-pub points_refused : (x : Checked) (r : Refusal) (payload : List ℕ) (symbol : ℕ) (out : List Float) → x ≡ Refused r
-    → (PointsRefused r ≡ points_of x (length payload) symbol (length out)) × (out ≡ points_into x payload symbol out)
+pub points_refused : (x : Result Settings Refusal) (r : Refusal) (payload : List ℕ) (symbol : ℕ) (out : List Float) → x ≡ Err r
+    → (Err r ≡ points_of x (length payload) symbol (length out)) × (out ≡ points_into x payload symbol out)
 points_refused x r payload symbol out e =
-    (ap (λ (y : Checked). points_of y (length payload) symbol (length out)) (sym e), ap (λ (y : Checked). points_into y payload symbol out) (sym e))
+    (ap (λ (y : Result Settings Refusal). points_of y (length payload) symbol (length out)) (sym e), ap (λ (y : Result Settings Refusal). points_into y payload symbol out) (sym e))
 
 module _ (s : Settings) (payload : List ℕ) (symbol : ℕ) (out : List Float) where
-  abbrev answer : (short past small : Bool) → PointsAnswer
-  answer short past small = cond short (PointsRefused Source) (cond past (PointsRefused Place) (cond small (PointsRefused Room) (Written (floats_of s))))
+  abbrev answer : (short past small : Bool) → Result ℕ Refusal
+  answer short past small = cond short (Err Source) (cond past (Err Place) (cond small (Err Room) (Ok (floats_of s))))
 
   -- and where they are accepted, by the tests' values
-  pub points_by : (x : Checked) (short past small : Bool) → x ≡ Accepted s
+  pub points_by : (x : Result Settings Refusal) (short past small : Bool) → x ≡ Ok s
       → ltb (length payload) s.length ≡ short → leb (symbols_of s) symbol ≡ past → ltb (length out) (floats_of s) ≡ small
       → (answer short past small ≡ points_of x (length payload) symbol (length out))
       × (points_into_by (answer short past small) (point_float s payload symbol) out ≡ points_into x payload symbol out)
   points_by x short past small e f g h = rw e (simp (f, g, h), simp (f, g, h))
 
   -- with the floats written
-  pub points_written : (x : Checked) (out' : List Float) → x ≡ Accepted s
+  pub points_written : (x : Result Settings Refusal) (out' : List Float) → x ≡ Ok s
       → ltb (length payload) s.length ≡ false → leb (symbols_of s) symbol ≡ false → ltb (length out) (floats_of s) ≡ false
       → Filled nan 0 (point_float s payload symbol) (floats_of s) out out'
-      → (Written (floats_of s) ≡ points_of x (length payload) symbol (length out)) × (out' ≡ points_into x payload symbol out)
+      → (Ok (floats_of s) ≡ points_of x (length payload) symbol (length out)) × (out' ≡ points_into x payload symbol out)
   points_written x out' e f g h filled =
       let w = points_by x false false false e f g h in
       (w.0, fill_list nan (point_float s payload symbol) (floats_of s) out out' (ltb-false (length out) (floats_of s) h) filled ∙ w.1)
@@ -92,14 +89,14 @@ module _ (s : Settings) (payload : List ℕ) (symbol : ℕ) (out : List Float) w
       }
 
 -- a number of floats that the call gives is small
-pub written_few : (a : RawSettings) (bytes symbol room n : ℕ) → points_of (check_of a) bytes symbol room ≡ Written n → n ≤ 912
+pub written_few : (a : RawSettings) (bytes symbol room n : ℕ) → points_of (check_of a) bytes symbol room ≡ Ok n → n ≤ 912
 written_few a bytes symbol room n = go (check_of a) refl
   where
-    none : (r : Refusal) → PointsRefused r ≡ Written n → n ≤ 912
+    none : (r : Refusal) → Err r ≡ Ok n → n ≤ 912
     none r e = let z : ◌≡◌ {A = ℕ} 0 1 = cc in absurd (omega (arith, z))
 
     tested : (s : Settings) → Right s → (u v w : Bool)
-        → cond u (PointsRefused Source) (cond v (PointsRefused Place) (cond w (PointsRefused Room) (Written (floats_of s)))) ≡ Written n → n ≤ 912
+        → cond u (Err Source) (cond v (Err Place) (cond w (Err Room) (Ok (floats_of s)))) ≡ Ok n → n ≤ 912
     tested s r true v w e = none Source e
     tested s r false true w e = none Place e
     tested s r false false true e = none Room e
@@ -107,6 +104,6 @@ written_few a bytes symbol room n = go (check_of a) refl
         let same : floats_of s ≡ n = cc in
         omega (arith, (floats_are s r (plan_for s) (places_of (plan_for s).width) refl refl).1, same)
 
-    go : (k : Checked) → check_of a ≡ k → points_of k bytes symbol room ≡ Written n → n ≤ 912
-    go (Accepted s) e q = tested s (right a s e) (ltb bytes s.length) (leb (symbols_of s) symbol) (ltb room (floats_of s)) q
-    go (Refused r) e q = none r q
+    go : (k : Result Settings Refusal) → check_of a ≡ k → points_of k bytes symbol room ≡ Ok n → n ≤ 912
+    go (Ok s) e q = tested s (right a s e) (ltb bytes s.length) (leb (symbols_of s) symbol) (ltb room (floats_of s)) q
+    go (Err r) e q = none r q

@@ -1,4 +1,7 @@
 -- The refusals of the points call, each given exactly when its row of document 01's table applies and none tested before it does. Assumes nothing.
+use Rattle.std.specs.Prelude.{Err, Ok, Result}
+use Rattle.settings.specs.declared.settings.Refusal.{Refusal}
+use Rattle.settings.specs.declared.settings.Settings.{Settings}
 use mathlib.Core.Path.{◌≡◌, refl}
 use mathlib.Core.Bool.{Bool, true, false, cond}
 use mathlib.Core.List.{List, [], ◌∷◌, ◌++◌}
@@ -13,12 +16,9 @@ use Rattle.laws.proofs.Refusing.{given_exactly}
 use Rattle.laws.proofs.Reflect.{less}
 use Rattle.settings.specs.declared.settings.Refusal.TheVariants.{Source, Place, Room}
 use Rattle.settings.specs.declared.settings.RawSettings.{RawSettings}
-use Rattle.settings.specs.declared.settings.Checked.{Checked}
 use Rattle.settings.specs.Settings.{settings_of, check_of}
 use Rattle.symbols.specs.Symbols.{symbols_of}
 use Rattle.settings.proofs.Refusals.{settingsRules, after_settings}
-use Rattle.frame.specs.declared.points.PointsAnswer.{PointsAnswer}
-use Rattle.frame.specs.declared.points.PointsAnswer.TheVariants.{Written, Refused as PointsRefused}
 use Rattle.frame.specs.Points.{floats_of, points_of, points_into_by, floats_in, points_into, points_number}
 use Rattle.frame.specs.Statements.{PayloadRow, SymbolRow, PointsRoomRow, PointsRefusals}
 
@@ -45,11 +45,11 @@ module _ (a : RawSettings) where
 pub points_refusals : PointsRefusals
 points_refusals a bytes symbol room =
     given_exactly (points_number (points_of (check_of a) bytes symbol room)) (settingsRules a ++ pointsRules a bytes symbol room) tt
-    (after_settings a (λ (c : Checked). points_number (points_of c bytes symbol room)) (pointsRules a bytes symbol room) (λ r. refl)
+    (after_settings a (λ (c : Result Settings Refusal). points_number (points_of c bytes symbol room)) (pointsRules a bytes symbol room) (λ r. refl)
     (go (ltb bytes a.length) (leb (symbols_of (settings_of a)) symbol) (ltb room (floats_of (settings_of a)))))
   where
     go : (s n r : Bool)
-        → points_number (cond s (PointsRefused Source) (cond n (PointsRefused Place) (cond r (PointsRefused Room) (Written (floats_of (settings_of a))))))
+        → points_number (cond s (Err Source) (cond n (Err Place) (cond r (Err Room) (Ok (floats_of (settings_of a))))))
         ≡ cond s 6 (cond n 7 (cond r 8 0))
     go true n r = refl
     go false true r = refl
@@ -61,6 +61,6 @@ pub refused_points_unchanged : (a : RawSettings) (payload : List ℕ) (symbol : 
     → (points_number (points_of (check_of a) (length payload) symbol (length out)) ≡ 0 → ⊥) → points_into (check_of a) payload symbol out ≡ out
 refused_points_unchanged a payload symbol out = go (points_of (check_of a) (length payload) symbol (length out))
   where
-    go : (x : PointsAnswer) → (points_number x ≡ 0 → ⊥) → points_into_by x (floats_in (check_of a) payload symbol) out ≡ out
-    go (Written count) n = absurd (n refl)
-    go (PointsRefused r) n = refl
+    go : (x : Result ℕ Refusal) → (points_number x ≡ 0 → ⊥) → points_into_by x (floats_in (check_of a) payload symbol) out ≡ out
+    go (Ok count) n = absurd (n refl)
+    go (Err r) n = refl

@@ -9,15 +9,9 @@ ghost use Rattle.frame.specs.Asked.{InFrame, WriteAsked, LabelsHeld};
 use chain::plan::MOST_HALVES;
 use coding::labels::half_labels;
 use modulator::symbol::symbol_points;
-use settings::settings::{Checked, RawSettings, Refusal, Settings, check, plan_of, refusal_of};
+use settings::settings::{RawSettings, Refusal, Settings, check, plan_of};
 use subcarriers::layout::places_of;
 use symbols::count::symbols_of;
-
-#[derive(Clone, Copy)]
-pub enum PointsAnswer {
-    Written(u64),
-    Refused(Refusal),
-}
 
 // The half labels of symbol n of a frame.
 pub fn labels_of(halves: &mut [u8], payload: &[u8], s: Settings, n: usize)
@@ -54,27 +48,29 @@ fn write_symbol(out: &mut [f32], payload: &[u8], s: Settings, n: usize)
 }
 
 // The public points call: the symbol's floats and the rest of the slice as it was, or a refusal and nothing written.
-pub fn points(raw: RawSettings, payload: &[u8], symbol: u64, out: &mut [f32]) -> PointsAnswer
+pub fn points(
+    raw: RawSettings,
+    payload: &[u8],
+    symbol: u64,
+    out: &mut [f32],
+) -> Result<u64, Refusal>
     ensures value { result ≡ points_of (check_of raw) (length payload.now) symbol (length out.old) }
     ensures out_after { out.new ≡ points_into (check_of raw) payload.now symbol out.old }
 {
-    let checked = check(raw);
-    let Checked::Accepted(s) = checked else {
-        return PointsAnswer::Refused(refusal_of(checked));
-    };
+    let s = check(raw)?;
     let short = payload.len() < s.length as usize;
     if short {
-        return PointsAnswer::Refused(Refusal::Source);
+        return Err(Refusal::Source);
     }
     let past = symbol >= symbols_of(s);
     if past {
-        return PointsAnswer::Refused(Refusal::Place);
+        return Err(Refusal::Place);
     }
     let floats = floats_of(s);
     let small = out.len() < floats;
     if small {
-        return PointsAnswer::Refused(Refusal::Room);
+        return Err(Refusal::Room);
     }
     write_symbol(out, payload, s, symbol as usize);
-    PointsAnswer::Written(floats as u64)
+    Ok(floats as u64)
 }

@@ -4,8 +4,8 @@ ghost use Rattle.frame_steps.specs.WholeFrame.{read_frame_of, read_frame_into};
 ghost use Rattle.frame_reader.specs.Result.{frame_result};
 
 use crate::read::read_frame;
-use conversions::{byte_number, refused};
-use frame_steps::steps::FrameAnswer;
+use conversions::refused;
+use frame_steps::steps::FrameRefusal;
 use reader_state::state::OpenSettings;
 use settings::settings::Refusal;
 
@@ -14,9 +14,9 @@ pub fn read_frame_call(settings: OpenSettings, points: &[f32], payload: &mut [u8
     ensures payload_after { payload.new ≡ read_frame_into settings points.now payload.old }
 {
     match read_frame(settings, points, payload) {
-        FrameAnswer::Read(seed) => byte_number(seed) as i64,
-        FrameAnswer::BadPoint(_, _, _) => refused(Refusal::Point),
-        FrameAnswer::BadSymbol(_, r) => refused(r),
-        FrameAnswer::Refused(r) => refused(r),
+        Ok(seed) => i64::from(seed),
+        Err(FrameRefusal::BadPoint(_, _, _)) => refused(Refusal::Point),
+        Err(FrameRefusal::BadSymbol(_, r)) => refused(r),
+        Err(FrameRefusal::Refused(r)) => refused(r),
     }
 }

@@ -7,9 +7,9 @@ ghost use Rattle.frame_steps.specs.Asked.{FrameAsked};
 ghost use Rattle.frame_reader.specs.Asked.{FrameLeft};
 
 use frame::points::floats_of;
-use frame_steps::steps::{FrameAnswer, read_symbols};
+use frame_steps::steps::{FrameRefusal, read_symbols};
 use reader_state::state::{OpenSettings, Reader, raw_of, start};
-use settings::settings::{Checked, Refusal, Settings, check, refusal_of};
+use settings::settings::{Refusal, Settings, check};
 use symbols::count::symbols_of;
 
 // The first bytes of a slice put into another.
@@ -29,19 +29,22 @@ fn read_into(
     points: &[f32],
     apart: &mut [u8],
     payload: &mut [u8],
-) -> FrameAnswer
+) -> Result<u8, FrameRefusal>
     requires { FrameAsked s reader points.now payload.old × (65535 ≡ length apart.old) }
     ensures { FrameLeft reader points.now result payload.old payload.new }
 {
-    let answer = read_symbols(reader, symbols_of(s), floats_of(s), points, apart);
-    if let FrameAnswer::Read(_) = answer {
-        copy_bytes(payload, apart, s.length as usize);
-    }
-    answer
+    let seed = read_symbols(reader, symbols_of(s), floats_of(s), points, apart)?;
+    copy_bytes(payload, apart, s.length as usize);
+    Ok(seed)
 }
 
 // The bytes apart, so that a frame refused late leaves the payload as it was.
-fn read_apart(s: Settings, reader: Reader, points: &[f32], payload: &mut [u8]) -> FrameAnswer
+fn read_apart(
+    s: Settings,
+    reader: Reader,
+    points: &[f32],
+    payload: &mut [u8],
+) -> Result<u8, FrameRefusal>
     requires { FrameAsked s reader points.now payload.old }
     ensures { FrameLeft reader points.now result payload.old payload.new }
 {
@@ -50,21 +53,16 @@ fn read_apart(s: Settings, reader: Reader, points: &[f32], payload: &mut [u8]) -
 }
 
 // The public call: the frame's payload and seed, or a refusal that changes nothing: the settings', 8, and then the symbols' 9, 10, 11.
-pub fn read_frame(o: OpenSettings, points: &[f32], payload: &mut [u8]) -> FrameAnswer
+pub fn read_frame(o: OpenSettings, points: &[f32], payload: &mut [u8]) -> Result<u8, FrameRefusal>
     ensures answered { result ≡ read_frame_of o points.now (length payload.old) }
     ensures left { payload.new ≡ read_frame_into o points.now payload.old }
     ensures exactly { ReadsFrame o points.now result payload.old payload.new }
 {
-    let checked = check(raw_of(o));
-    let Checked::Accepted(s) = checked else {
-        return FrameAnswer::Refused(refusal_of(checked));
-    };
+    let s = check(raw_of(o))?;
     let small = (points.len() < symbols_of(s) as usize * floats_of(s))
         | (payload.len() < s.length as usize);
     if small {
-        return FrameAnswer::Refused(Refusal::Room);
+        return Err(FrameRefusal::Refused(Refusal::Room));
     }
-    let started = start(o);
-    let begun = started.state;
-    read_apart(s, begun, points, payload)
+    read_apart(s, start(o).state, points, payload)
 }

@@ -1,4 +1,7 @@
 -- The answer to a frame's symbols, by the first of them that is refused. Assumes nothing.
+use Rattle.std.specs.Prelude.{Err, None, Ok, Option, Result, Some}
+use Rattle.acceptance.specs.declared.accept.StepRefusal.{StepRefusal}
+use Rattle.acceptance.specs.declared.accept.StepRefusal.TheVariants.{BadPoint, Refused as StepRefused}
 use mathlib.Core.Path.{◌≡◌, ◌∙◌, refl, sym, ap}
 use mathlib.Core.Bool.{Bool, true, false, cond, not}
 use mathlib.Core.List.{List}
@@ -13,22 +16,19 @@ use Rattle.laws.proofs.Refusing.{true_not_false}
 use Rattle.laws.proofs.Least.{first_is, Passing, NonePasses, first_cases, first_none}
 use Rattle.symbols.specs.Symbols.{symbols_of}
 use Rattle.reader_state.specs.declared.state.OpenSettings.{OpenSettings}
-use Rattle.acceptance.specs.declared.accept.StepAnswer.{StepAnswer}
-use Rattle.acceptance.specs.declared.accept.StepAnswer.TheVariants.{First, Next, BadPoint, Refused as StepRefused}
 use Rattle.reader.specs.Step.{step_number, step_seed}
 use Rattle.reader_runs.specs.Sent.{settings_for}
-use Rattle.frame_steps.specs.declared.steps.FrameAnswer.TheVariants.{Read}
 use Rattle.frame_steps.specs.WholeFrame.{answer_at, first_refused, refused_as, symbols_answer}
 
 not_false : (t : Bool) → not t ≡ false → t ≡ true
 not_false true e = refl
 not_false false e = absurd (true_not_false e)
 
-refused_not_read : (n : ℕ) (a : StepAnswer) (k : ℕ) → not (eqb (step_number a) 0) ≡ true → refused_as n a ≡ Read k → ⊥
-refused_not_read n (First seed) k e g = true_not_false (sym e)
-refused_not_read n Next k e g = true_not_false (sym e)
-refused_not_read n (BadPoint i z) k e g = let w : ◌≡◌ {A = ℕ} 0 1 = cc in omega arith
-refused_not_read n (StepRefused r) k e g = let w : ◌≡◌ {A = ℕ} 0 1 = cc in omega arith
+refused_not_read : (n : ℕ) (a : Result (Option ℕ) StepRefusal) (k : ℕ) → not (eqb (step_number a) 0) ≡ true → refused_as n a ≡ Ok k → ⊥
+refused_not_read n (Ok (Some seed)) k e g = true_not_false (sym e)
+refused_not_read n (Ok None) k e g = true_not_false (sym e)
+refused_not_read n (Err (BadPoint i z)) k e g = let w : ◌≡◌ {A = ℕ} 0 1 = cc in omega arith
+refused_not_read n (Err (StepRefused r)) k e g = let w : ◌≡◌ {A = ℕ} 0 1 = cc in omega arith
 
 module _ (o : OpenSettings) (points : List Float) (bytes : ℕ) where
   abbrev symbols : ℕ
@@ -49,8 +49,8 @@ module _ (o : OpenSettings) (points : List Float) (bytes : ℕ) where
 
     pub answer_at_lem : symbols_answer o points bytes ≡ refused_as n (answer_at o points bytes n)
     answer_at_lem =
-        ap (λ (k : ℕ). cond (ltb k symbols) (refused_as k (answer_at o points bytes k)) (Read (step_seed (answer_at o points bytes 0)))) first_at
-        ∙ ap (λ (t : Bool). cond t (refused_as n (answer_at o points bytes n)) (Read (step_seed (answer_at o points bytes 0)))) (lt-ltb n symbols inside)
+        ap (λ (k : ℕ). cond (ltb k symbols) (refused_as k (answer_at o points bytes k)) (Ok (step_seed (answer_at o points bytes 0)))) first_at
+        ∙ ap (λ (t : Bool). cond t (refused_as n (answer_at o points bytes n)) (Ok (step_seed (answer_at o points bytes 0)))) (lt-ltb n symbols inside)
 
   -- none
   module _ (accepted : (k : ℕ) → k < symbols_of (settings_for o) → step_number (answer_at o points bytes k) ≡ 0) where
@@ -58,13 +58,13 @@ module _ (o : OpenSettings) (points : List Float) (bytes : ℕ) where
     unfolding first_refused
     first_count = first_none refusedTest 0 symbols (λ k low high. ap not (eq-eqb (step_number (answer_at o points bytes k)) 0 (accepted k (omega (arith, high))))) ∙ omega arith
 
-    pub answer_read : symbols_answer o points bytes ≡ Read (step_seed (answer_at o points bytes 0))
+    pub answer_read : symbols_answer o points bytes ≡ Ok (step_seed (answer_at o points bytes 0))
     answer_read =
-        ap (λ (k : ℕ). cond (ltb k symbols) (refused_as k (answer_at o points bytes k)) (Read (step_seed (answer_at o points bytes 0)))) first_count
-        ∙ ap (λ (t : Bool). cond t (refused_as symbols (answer_at o points bytes symbols)) (Read (step_seed (answer_at o points bytes 0)))) (le-ltb symbols symbols (omega arith))
+        ap (λ (k : ℕ). cond (ltb k symbols) (refused_as k (answer_at o points bytes k)) (Ok (step_seed (answer_at o points bytes 0)))) first_count
+        ∙ ap (λ (t : Bool). cond t (refused_as symbols (answer_at o points bytes symbols)) (Ok (step_seed (answer_at o points bytes 0)))) (le-ltb symbols symbols (omega arith))
 
   -- a frame that is read has no refused symbol
-  pub none_refused : (k : ℕ) → symbols_answer o points bytes ≡ Read k → (n : ℕ) → n < symbols_of (settings_for o) → step_number (answer_at o points bytes n) ≡ 0
+  pub none_refused : (k : ℕ) → symbols_answer o points bytes ≡ Ok k → (n : ℕ) → n < symbols_of (settings_for o) → step_number (answer_at o points bytes n) ≡ 0
   unfolding first_refused
   none_refused k e =
       ⊎_elim
@@ -72,7 +72,7 @@ module _ (o : OpenSettings) (points : List Float) (bytes : ℕ) where
       absurd
       (refused_not_read _ (answer_at o points bytes (first_from refusedTest 0 symbols)) k p.passes
       (ap (λ (t : Bool).
-      cond t (refused_as (first_from refusedTest 0 symbols) (answer_at o points bytes (first_from refusedTest 0 symbols))) (Read (step_seed (answer_at o points bytes 0))))
+      cond t (refused_as (first_from refusedTest 0 symbols) (answer_at o points bytes (first_from refusedTest 0 symbols))) (Ok (step_seed (answer_at o points bytes 0))))
       (sym (lt-ltb (first_from refusedTest 0 symbols) symbols (omega (arith, p.below))))
       ∙ e)))
       (λ (p : NonePasses refusedTest 0 symbols (first_from refusedTest 0 symbols)).

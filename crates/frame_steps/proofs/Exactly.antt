@@ -1,4 +1,10 @@
 -- Demand 2 of a whole frame's slices, and the refusals of its reading in their order: the terms of specs/Statements. Assumes nothing.
+use Rattle.std.specs.Prelude.{Err, None, Ok, Option, Result, Some}
+use Rattle.frame_steps.specs.declared.steps.FrameRefusal.{FrameRefusal}
+use Rattle.settings.specs.declared.settings.Settings.{Settings}
+use Rattle.acceptance.specs.declared.accept.StepRefusal.{StepRefusal}
+use Rattle.frame_steps.specs.declared.steps.FrameRefusal.TheVariants.{BadPoint as BadPointAt, BadSymbol, Refused as FrameRefused}
+use Rattle.acceptance.specs.declared.accept.StepRefusal.TheVariants.{BadPoint, Refused as StepRefused}
 use mathlib.Core.Path.{◌≡◌, ◌∙◌, refl, sym, ap, subst}
 use mathlib.Core.Bool.{Bool, true, false, cond}
 use mathlib.Core.List.{List, ◌++◌}
@@ -17,17 +23,12 @@ use Rattle.laws.proofs.Search.{AllBelow, FirstFailing, search_below}
 use Rattle.chain.specs.DataBits.{payload_bit}
 use Rattle.settings.specs.declared.settings.Refusal.{Refusal}
 use Rattle.settings.specs.declared.settings.Refusal.TheVariants.{Room}
-use Rattle.settings.specs.declared.settings.Checked.{Checked}
-use Rattle.settings.specs.declared.settings.Checked.TheVariants.{Accepted, Refused}
 use Rattle.settings.specs.Settings.{check_of}
 use Rattle.symbols.specs.Symbols.{symbols_of}
 use Rattle.symbols.proofs.CountLaws.{symbols_some}
 use Rattle.frame.specs.Points.{floats_of}
 use Rattle.assembler.specs.Assembled.{byte_of}
 use Rattle.reader_state.specs.declared.state.OpenSettings.{OpenSettings}
-use Rattle.reader_state.specs.declared.state.StartAnswer.TheVariants.{Refused as StartRefused}
-use Rattle.acceptance.specs.declared.accept.StepAnswer.{StepAnswer}
-use Rattle.acceptance.specs.declared.accept.StepAnswer.TheVariants.{First, Next, BadPoint, Refused as StepRefused}
 use Rattle.reader_state.specs.State.{open_raw, start_by, start_number}
 use Rattle.reader.specs.Step.{step_number, step_seed, step_stream, step_subcarrier}
 use Rattle.reader_runs.specs.Sent.{settings_for}
@@ -38,8 +39,6 @@ use Rattle.reader_runs.proofs.Payloads.{first_bytes}
 use Rattle.demands.specs.Demand2.{Begun, IsFrame}
 use Rattle.demands.proofs.Reading.{begun_ready}
 use Rattle.demands.proofs.Demand2.{gives_all, demand_2a}
-use Rattle.frame_steps.specs.declared.steps.FrameAnswer.{FrameAnswer}
-use Rattle.frame_steps.specs.declared.steps.FrameAnswer.TheVariants.{Read, BadPoint as BadPointAt, BadSymbol, Refused as FrameRefused}
 use Rattle.frame_steps.specs.WholeFrame.{symbol_at, answer_at, memory_at, refused_as, symbols_answer, frame_no_room, read_frame_by}
 use Rattle.frame_steps.specs.WholeFrame.{read_frame_of, frame_into_by, read_frame_into}
 use Rattle.frame_steps.specs.WholeFrame.{frame_number, frame_seed, frame_symbol, frame_stream, frame_subcarrier}
@@ -55,10 +54,10 @@ room_false o floats bytes room =
     simp (le-ltb floats (symbols_of (settings_for o) * floats_of (settings_for o)) room.0, le-ltb bytes o.length room.1)
 
 answer_by : (o : OpenSettings) → Begun o → (points : List Float) (bytes : ℕ) (t : Bool) → frame_no_room (settings_for o) (length points) bytes ≡ t
-    → read_frame_of o points bytes ≡ cond t (FrameRefused Room) (symbols_answer o points bytes)
+    → read_frame_of o points bytes ≡ cond t (Err (FrameRefused Room)) (symbols_answer o points bytes)
 answer_by o begun points bytes t e =
-    ap (λ (x : Checked). read_frame_by x o points bytes) (begun_ready o begun)
-    ∙ ap (λ (b : Bool). cond b (FrameRefused Room) (symbols_answer o points bytes)) e
+    ap (λ (x : Result Settings Refusal). read_frame_by x o points bytes) (begun_ready o begun)
+    ∙ ap (λ (b : Bool). cond b (Err (FrameRefused Room)) (symbols_answer o points bytes)) e
 
 -- a payload is the bytes that its bits write
 own_bytes : (o : OpenSettings) (seed : ℕ) (p : List ℕ) → IsFrame o seed p → firsts (byte_of (payload_bit p)) o.length ≡ p
@@ -66,7 +65,7 @@ own_bytes o seed p (some, (most, (long, small))) =
     first_bytes p o.length (omega (arith, long)) small ∙ ap (λ (k : ℕ). take k p) (sym long) ∙ take-length p
 
 module _ (o : OpenSettings) (points : List Float) (payload : List ℕ) (begun : Begun o) (room : RoomForFrame o (length points) (length payload)) where
-  ready : check_of (open_raw o) ≡ Accepted (settings_for o)
+  ready : check_of (open_raw o) ≡ Ok (settings_for o)
   ready = begun_ready o begun
 
   abbrev S : ℕ → List Float
@@ -83,26 +82,26 @@ module _ (o : OpenSettings) (points : List Float) (payload : List ℕ) (begun : 
 
   -- a frame that gives the symbols is read
   module _ (seed : ℕ) (p : List ℕ) (frame : IsFrame o seed p) (gives : GivesFrame o seed p points) where
-    answers : (n : ℕ) → n < count → answer_at o points (length payload) n ≡ cond (eqb n 0) (First seed) Next
+    answers : (n : ℕ) → n < count → answer_at o points (length payload) n ≡ cond (eqb n 0) (Ok (Some seed)) (Ok None)
     answers n l =
         run_takes o ready S (λ k. length payload) count (omega arith) (rooms o ready points room.0 (length payload) room.1 count (omega arith))
         (gives_all o ready S count (omega arith) seed p frame gives) n l
 
-    pub frame_read : read_frame_of o points (length payload) ≡ Read seed
+    pub frame_read : read_frame_of o points (length payload) ≡ Ok seed
     frame_read =
         answer_is
         ∙ answer_read o points (length payload) (λ n l. ap step_number (answers n l) ∙ accepted_zero (eqb n 0) seed)
-        ∙ ap (λ (a : StepAnswer). Read (step_seed a)) (answers 0 some_symbol)
+        ∙ ap (λ (a : Result (Option ℕ) StepRefusal). Ok (step_seed a)) (answers 0 some_symbol)
 
     pub frame_left : read_frame_into o points payload ≡ p ++ drop o.length payload
     frame_left =
-        ap (λ (r : FrameAnswer). frame_into_by r (memory_at o points count payload) payload) frame_read
+        ap (λ (r : Result ℕ FrameRefusal). frame_into_by r (memory_at o points count payload) payload) frame_read
         ∙ fill_list 0 (byte_of (payload_bit p)) o.length payload (memory_at o points count payload) room.1
         (payload_read o ready points room.0 (gives_all o ready S count (omega arith) seed p frame gives) payload room.1)
         ∙ ap (λ (l : List ℕ). l ++ drop o.length payload) (own_bytes o seed p frame)
 
   -- and a frame that is read is given by one
-  pub frame_given : (seed : ℕ) → read_frame_of o points (length payload) ≡ Read seed → (seed' : ℕ) × ((p : List ℕ) × (IsFrame o seed' p × GivesFrame o seed' p points))
+  pub frame_given : (seed : ℕ) → read_frame_of o points (length payload) ≡ Ok seed → (seed' : ℕ) × ((p : List ℕ) × (IsFrame o seed' p × GivesFrame o seed' p points))
   frame_given seed e =
       let all = none_refused o points (length payload) seed (sym answer_is ∙ e) in
       let fill = rooms o ready points room.0 (length payload) room.1 count (omega arith) in
@@ -111,18 +110,18 @@ module _ (o : OpenSettings) (points : List Float) (payload : List ℕ) (begun : 
       (g.0, (g.1.0, (g.1.1.0, λ n l. g.1.1.1 n (omega (arith, l)))))
 
 -- an answer that is no seed writes nothing
-pub unread : (r : FrameAnswer) (read payload : List ℕ) → ((seed : ℕ) → r ≡ Read seed → ⊥) → frame_into_by r read payload ≡ payload
-unread (Read seed) read payload n = absurd (n seed refl)
-unread (BadPointAt m i z) read payload n = refl
-unread (BadSymbol m r) read payload n = refl
-unread (FrameRefused r) read payload n = refl
+pub unread : (r : Result ℕ FrameRefusal) (read payload : List ℕ) → ((seed : ℕ) → r ≡ Ok seed → ⊥) → frame_into_by r read payload ≡ payload
+unread (Ok seed) read payload n = absurd (n seed refl)
+unread (Err (BadPointAt m i z)) read payload n = refl
+unread (Err (BadSymbol m r)) read payload n = refl
+unread (Err (FrameRefused r)) read payload n = refl
 
 -- an answer of number 0 has read a seed
-pub read_shown : (r : FrameAnswer) (seed : ℕ) → frame_number r ≡ 0 → frame_seed r ≡ seed → r ≡ Read seed
-read_shown (Read k) seed z e = ap Read e
-read_shown (BadPointAt n i y) seed z e = absurd (omega (arith, z))
-read_shown (BadSymbol n r) seed z e = absurd (refusal_some r z)
-read_shown (FrameRefused r) seed z e = absurd (refusal_some r z)
+pub read_shown : (r : Result ℕ FrameRefusal) (seed : ℕ) → frame_number r ≡ 0 → frame_seed r ≡ seed → r ≡ Ok seed
+read_shown (Ok k) seed z e = ap Ok e
+read_shown (Err (BadPointAt n i y)) seed z e = absurd (omega (arith, z))
+read_shown (Err (BadSymbol n r)) seed z e = absurd (refusal_some r z)
+read_shown (Err (FrameRefused r)) seed z e = absurd (refusal_some r z)
 
 -- demand 2 of the slices
 pub reads_frame : (o : OpenSettings) (points : List Float) (payload : List ℕ) → ReadsFrame o points (read_frame_of o points (length payload)) payload (read_frame_into o points payload)
@@ -140,35 +139,35 @@ reads_frame o points payload = (
   λ none. unread r (memory_at o points (symbols_of (settings_for o)) payload) payload (λ seed e. none seed (shown seed e)),
 )
   where
-    r : FrameAnswer
+    r : Result ℕ FrameRefusal
     r = read_frame_of o points (length payload)
 
-    shown : (seed : ℕ) → r ≡ Read seed → (frame_number r ≡ 0) × (frame_seed r ≡ seed)
+    shown : (seed : ℕ) → r ≡ Ok seed → (frame_number r ≡ 0) × (frame_seed r ≡ seed)
     shown seed e = (ap frame_number e, ap frame_seed e)
 
 -- ---- refusals
 
 -- the values of a refused symbol
-symbol_number : (n : ℕ) (a : StepAnswer) → (step_number a ≡ 0 → ⊥)
+symbol_number : (n : ℕ) (a : Result (Option ℕ) StepRefusal) → (step_number a ≡ 0 → ⊥)
     → (frame_number (refused_as n a) ≡ step_number a) × (frame_symbol (refused_as n a) ≡ n)
-symbol_number n (First seed) r = absurd (r refl)
-symbol_number n Next r = absurd (r refl)
-symbol_number n (BadPoint i z) r = (refl, refl)
-symbol_number n (StepRefused e) r = (refl, refl)
+symbol_number n (Ok (Some seed)) r = absurd (r refl)
+symbol_number n (Ok None) r = absurd (r refl)
+symbol_number n (Err (BadPoint i z)) r = (refl, refl)
+symbol_number n (Err (StepRefused e)) r = (refl, refl)
 
-symbol_place : (n : ℕ) (a : StepAnswer)
+symbol_place : (n : ℕ) (a : Result (Option ℕ) StepRefusal)
     → (frame_stream (refused_as n a) ≡ step_stream a) × (frame_subcarrier (refused_as n a) ≡ step_subcarrier a)
-symbol_place n (First seed) = (refl, refl)
-symbol_place n Next = (refl, refl)
-symbol_place n (BadPoint i z) = (refl, refl)
-symbol_place n (StepRefused e) = (refl, refl)
+symbol_place n (Ok (Some seed)) = (refl, refl)
+symbol_place n (Ok None) = (refl, refl)
+symbol_place n (Err (BadPoint i z)) = (refl, refl)
+symbol_place n (Err (StepRefused e)) = (refl, refl)
 
-abbrev start_refusal : Checked → OpenSettings → (points : List Float) (bytes : ℕ) → Type 0
-start_refusal x o points bytes = (e : Refusal) → (start_by x o).answer ≡ StartRefused e → read_frame_by x o points bytes ≡ FrameRefused e
+abbrev start_refusal : Result Settings Refusal → OpenSettings → (points : List Float) (bytes : ℕ) → Type 0
+start_refusal x o points bytes = (e : Refusal) → (start_by x o).answer ≡ Err e → read_frame_by x o points bytes ≡ Err (FrameRefused e)
 
-start_refused : (x : Checked) (o : OpenSettings) (points : List Float) (bytes : ℕ) → start_refusal x o points bytes
-start_refused (Accepted s) o points bytes e g = let z : ◌≡◌ {A = ℕ} 0 1 = cc in absurd (omega arith)
-start_refused (Refused r) o points bytes e g = let same : r ≡ e = cc in ap FrameRefused same
+start_refused : (x : Result Settings Refusal) (o : OpenSettings) (points : List Float) (bytes : ℕ) → start_refusal x o points bytes
+start_refused (Ok s) o points bytes e g = let z : ◌≡◌ {A = ℕ} 0 1 = cc in absurd (omega arith)
+start_refused (Err r) o points bytes e g = let same : r ≡ e = cc in ap (λ (k : Refusal). Err (FrameRefused k)) same
 
 room_or_not : (o : OpenSettings) (floats bytes : ℕ) → frame_no_room (settings_for o) floats bytes ≡ false → RoomForFrame o floats bytes
 room_or_not o floats bytes e =
@@ -225,9 +224,9 @@ frame_refusals o points bytes = (
   ),
 )
   where
-    short : Begun o → (RoomForFrame o (length points) bytes → ⊥) → read_frame_of o points bytes ≡ FrameRefused Room
+    short : Begun o → (RoomForFrame o (length points) bytes → ⊥) → read_frame_of o points bytes ≡ Err (FrameRefused Room)
     short begun none = by_room (frame_no_room (settings_for o) (length points) bytes) refl
       where
-        by_room : (t : Bool) → frame_no_room (settings_for o) (length points) bytes ≡ t → read_frame_of o points bytes ≡ FrameRefused Room
+        by_room : (t : Bool) → frame_no_room (settings_for o) (length points) bytes ≡ t → read_frame_of o points bytes ≡ Err (FrameRefused Room)
         by_room true e = answer_by o begun points bytes true e
         by_room false e = absurd (none (room_or_not o (length points) bytes e))

@@ -1,4 +1,6 @@
 -- What the reading of a whole frame takes from the reader's runs. Assumes accepted settings and points for every symbol.
+use Rattle.std.specs.Prelude.{None, Ok, Option, Result, Some}
+use Rattle.acceptance.specs.declared.accept.StepRefusal.{StepRefusal}
 use mathlib.Core.Path.{◌≡◌, ap}
 use mathlib.Core.Bool.{cond, not}
 use mathlib.Core.List.{List}
@@ -13,24 +15,20 @@ use Rattle.laws.specs.Least.{first_from}
 use Rattle.laws.proofs.Filling.{fill_at, fill_as}
 use Rattle.laws.proofs.Firsts.{fill_only}
 use Rattle.settings.specs.declared.settings.Settings.{Settings}
-use Rattle.settings.specs.declared.settings.Checked.TheVariants.{Accepted}
 use Rattle.settings.specs.Settings.{check_of}
 use Rattle.symbols.specs.Symbols.{symbols_of}
 use Rattle.frame.specs.Points.{floats_of}
 use Rattle.assembler.specs.Assembled.{byte_of}
 use Rattle.reader_state.specs.declared.state.OpenSettings.{OpenSettings}
-use Rattle.acceptance.specs.declared.accept.StepAnswer.{StepAnswer}
-use Rattle.acceptance.specs.declared.accept.StepAnswer.TheVariants.{First, Next}
 use Rattle.reader_state.specs.State.{open_raw}
 use Rattle.reader.specs.Step.{step_number, step_seed}
 use Rattle.reader_runs.specs.Sent.{settings_for, SentBy, Rooms}
 use Rattle.reader_runs.proofs.Runs.{run_gives, run_takes}
 use Rattle.reader_runs.proofs.Memory.{memory_whole}
 use Rattle.reader_runs.proofs.Endings.{answers_room}
-use Rattle.frame_steps.specs.declared.steps.FrameAnswer.TheVariants.{Read}
 use Rattle.frame_steps.specs.WholeFrame.{symbol_at, answer_at, memory_at, first_refused, refused_as, symbols_answer}
 
-module _ (o : OpenSettings) (ready : check_of (open_raw o) ≡ Accepted (settings_for o)) (points : List Float)
+module _ (o : OpenSettings) (ready : check_of (open_raw o) ≡ Ok (settings_for o)) (points : List Float)
     (whole : symbols_of (settings_for o) * floats_of (settings_for o) ≤ length points) where
   abbrev s : Settings
   s = settings_for o
@@ -48,15 +46,15 @@ module _ (o : OpenSettings) (ready : check_of (open_raw o) ≡ Accepted (setting
   pub answer_room : (bytes bytes' : ℕ) → o.length ≤ bytes → o.length ≤ bytes' → symbols_answer o points bytes ≡ symbols_answer o points bytes'
   unfolding first_refused
   answer_room bytes bytes' h h' =
-      let same : ◌≡◌ {A = ℕ → StepAnswer} (answer_at o points bytes) (answer_at o points bytes') =
+      let same : ◌≡◌ {A = ℕ → Result (Option ℕ) StepRefusal} (answer_at o points bytes) (answer_at o points bytes') =
       λ i. λ n. answers_room o S (λ k. bytes) (λ k. bytes') (λ k. h) (λ k. h') n i in
-      ap (λ (a : ℕ → StepAnswer).
+      ap (λ (a : ℕ → Result (Option ℕ) StepRefusal).
       let first : ℕ = first_from (λ n. not (eqb (step_number (a n)) 0)) 0 (symbols_of s) in
-      cond (ltb first (symbols_of s)) (refused_as first (a first)) (Read (step_seed (a 0)))) same
+      cond (ltb first (symbols_of s)) (refused_as first (a first)) (Ok (step_seed (a 0)))) same
 
   -- a symbol accepted after accepted ones: symbol 0 with a seed, a later one with none
   pub accepted_as : (bytes : ℕ) → o.length ≤ bytes → (n : ℕ) → n < symbols_of (settings_for o) → ((k : ℕ) → k ≤ n → step_number (answer_at o points bytes k) ≡ 0)
-      → (seed : ℕ) × (answer_at o points bytes n ≡ cond (eqb n 0) (First seed) Next)
+      → (seed : ℕ) × (answer_at o points bytes n ≡ cond (eqb n 0) (Ok (Some seed)) (Ok None))
   accepted_as bytes h n l accepted =
       let few : n + 1 ≤ symbols_of s = omega (arith, l) in
       let room = rooms bytes h (n + 1) few in

@@ -1,4 +1,7 @@
 -- What the whole frame's reading keeps from symbol to symbol, and the answer where it ends. Assumes nothing.
+use Rattle.std.specs.Prelude.{None, Ok, Option, Result, Some}
+use Rattle.frame_steps.specs.declared.steps.FrameRefusal.{FrameRefusal}
+use Rattle.acceptance.specs.declared.accept.StepRefusal.{StepRefusal}
 use mathlib.Core.Path.{◌≡◌, ◌∙◌, refl, sym, ap, subst}
 use mathlib.Core.Bool.{Bool, cond}
 use mathlib.Core.List.{List}
@@ -20,16 +23,12 @@ use Rattle.symbols.proofs.CountLaws.{symbols_some}
 use Rattle.frame.specs.Points.{floats_of}
 use Rattle.reader_state.specs.declared.state.OpenSettings.{OpenSettings}
 use Rattle.reader_state.specs.declared.state.Reader.{Reader}
-use Rattle.acceptance.specs.declared.accept.StepAnswer.{StepAnswer}
-use Rattle.acceptance.specs.declared.accept.StepAnswer.TheVariants.{First, Next}
 use Rattle.acceptance.specs.declared.accept.Stepped.{Stepped}
 use Rattle.reader_state.specs.State.{open_raw}
 use Rattle.reader.specs.Step.{step_of, step_into, step_number, step_seed}
 use Rattle.verdicts.proofs.Refusals.{refused_step_unchanged}
 use Rattle.reader_runs.specs.Run.{state_before, memory_before}
 use Rattle.reader_runs.specs.Sent.{settings_for}
-use Rattle.frame_steps.specs.declared.steps.FrameAnswer.{FrameAnswer}
-use Rattle.frame_steps.specs.declared.steps.FrameAnswer.TheVariants.{Read}
 use Rattle.frame_steps.specs.WholeFrame.{symbol_at, answer_at, memory_at, refused_as}
 use Rattle.frame_steps.specs.Asked.{SymbolsAsked, SymbolsRead}
 use Rattle.frame_steps.proofs.AnswerLaws.{first_at, answer_at_lem, first_count, answer_read}
@@ -50,16 +49,16 @@ pub record Before (o : OpenSettings) (points : List Float) (payload₀ : List �
   pub at_is : at ≡ n * floats_of (settings_for o)
 
 -- the seed is that of symbol 0's answer, and stays
-abbrev pub SeedAfter : StepAnswer → (seed seed' : ℕ) → Type 0
-SeedAfter a seed seed' = (a ≡ First seed') ⊎ ((a ≡ Next) × (seed' ≡ seed))
+abbrev pub SeedAfter : Result (Option ℕ) StepRefusal → (seed seed' : ℕ) → Type 0
+SeedAfter a seed seed' = (a ≡ Ok (Some seed')) ⊎ ((a ≡ Ok None) × (seed' ≡ seed))
 
 -- the seed after symbol n
-seed_by : (n : ℕ) (answers : ℕ → StepAnswer) (seed seed' k : ℕ) → SeedAfter (answers n) seed seed' → answers n ≡ cond (eqb n 0) (First k) Next
+seed_by : (n : ℕ) (answers : ℕ → Result (Option ℕ) StepRefusal) (seed seed' k : ℕ) → SeedAfter (answers n) seed seed' → answers n ≡ cond (eqb n 0) (Ok (Some k)) (Ok None)
     → (0 < n → seed ≡ step_seed (answers 0)) → seed' ≡ step_seed (answers 0)
 seed_by zero answers seed seed' k (inl p) q before = sym (ap step_seed p)
-seed_by zero answers seed seed' k (inr p) q before = let m : answers 0 ≡ Next = p.0 in let z : ◌≡◌ {A = ℕ} 0 1 = cc in absurd (omega (arith, z))
+seed_by zero answers seed seed' k (inr p) q before = let m : answers 0 ≡ Ok None = p.0 in let z : ◌≡◌ {A = ℕ} 0 1 = cc in absurd (omega (arith, z))
 seed_by (suc n) answers seed seed' k (inl p) q before =
-    let later : answers (suc n) ≡ Next = q ∙ ap (λ (t : Bool). cond t (First k) Next) (ne_eqb (suc n) 0 (λ e. omega (arith, e))) in
+    let later : answers (suc n) ≡ Ok None = q ∙ ap (λ (t : Bool). cond t (Ok (Some k)) (Ok None)) (ne_eqb (suc n) 0 (λ e. omega (arith, e))) in
     let z : ◌≡◌ {A = ℕ} 0 1 = cc in absurd (omega (arith, z))
 seed_by (suc n) answers seed seed' k (inr p) q before = p.1 ∙ before (omega arith)
 
@@ -129,7 +128,7 @@ module _ (reader : Reader) (count floats : ℕ) (points : List Float) (payload�
       seed_kept seed' s =
           let shown = accepted_as o pre.asked.accepted points pre.asked.whole_points bytes pre.asked.whole_payload n l
           (λ k h. all_accepted seed' s k (omega arith)) in
-          seed_by n (λ k. answer_at o points bytes k) seed seed' shown.0 (subst (λ (a : StepAnswer). SeedAfter a seed seed') answer_is s) shown.1 b.seed_is
+          seed_by n (λ k. answer_at o points bytes k) seed seed' shown.0 (subst (λ (a : Result (Option ℕ) StepRefusal). SeedAfter a seed seed') answer_is s) shown.1 b.seed_is
 
       -- an accepted symbol
       pub before_next : (seed' : ℕ) → SeedAfter stepped.answer seed seed' → length payload' ≡ length payload → Before o points payload₀ (n + 1) payload' stepped.state seed' (at + floats)
@@ -148,7 +147,7 @@ module _ (reader : Reader) (count floats : ℕ) (points : List Float) (payload�
       refused_here refused z = refused (ap step_number answer_is ∙ z)
 
       -- a refused one
-      pub read_refused : (step_number stepped.answer ≡ 0 → ⊥) → (r : FrameAnswer) → r ≡ refused_as n stepped.answer → SymbolsRead reader points r payload₀ payload'
+      pub read_refused : (step_number stepped.answer ≡ 0 → ⊥) → (r : Result ℕ FrameRefusal) → r ≡ refused_as n stepped.answer → SymbolsRead reader points r payload₀ payload'
       read_refused refused r g = record {
         answered = g ∙ ap (refused_as n) answer_is ∙ sym (answer_at_lem o points bytes n l b.accepted (refused_here refused));
         left =
@@ -157,13 +156,13 @@ module _ (reader : Reader) (count floats : ℕ) (points : List Float) (payload�
       }
 
     -- all accepted
-    pub read_all : symbols ≤ n → SymbolsRead reader points (Read seed) payload₀ payload
+    pub read_all : symbols ≤ n → SymbolsRead reader points (Ok seed) payload₀ payload
     read_all h =
         let all : n ≡ symbols = omega (arith, b.within) in
         let accepted : (k : ℕ) → k < symbols → step_number (answer_at o points bytes k) ≡ 0 = λ k l. b.accepted k (omega (arith, l, all)) in
         record {
           answered =
-              ap Read (b.seed_is (omega (arith, symbols_some (settings_for o) (right (open_raw o) (settings_for o) pre.asked.accepted))))
+              ap Ok (b.seed_is (omega (arith, symbols_some (settings_for o) (right (open_raw o) (settings_for o) pre.asked.accepted))))
               ∙ sym (answer_read o points bytes accepted);
           left = b.payload_is ∙ ap (λ (m : ℕ). memory_at o points m payload₀) (all ∙ sym (first_count o points bytes accepted));
         }

@@ -1,18 +1,17 @@
 -- What is proved of the whole frame's reading: demand 2 of its slices, and its refusals in their order. The terms are in proofs/Exactly.
-use Rattle.std.specs.Prelude.{◌≡◌, List, ◌++◌, ◌↔◌, ◌⊎◌, ℕ, ◌*◌, ◌<◌, ◌≤◌, length, drop, Float}
+use Rattle.frame_steps.specs.declared.steps.FrameRefusal.{FrameRefusal}
+use Rattle.acceptance.specs.declared.accept.StepRefusal.{StepRefusal}
+use Rattle.frame_steps.specs.declared.steps.FrameRefusal.TheVariants.{Refused as FrameRefused}
+use Rattle.std.specs.Prelude.{◌≡◌, List, ◌++◌, ◌↔◌, ◌⊎◌, ℕ, ◌*◌, ◌<◌, ◌≤◌, length, drop, Float, Err, Option, Result}
 use Rattle.settings.specs.declared.settings.Refusal.{Refusal}
 use Rattle.settings.specs.declared.settings.Refusal.TheVariants.{Room}
 use Rattle.symbols.specs.Symbols.{symbols_of}
 use Rattle.frame.specs.Points.{floats_of}
 use Rattle.reader_state.specs.declared.state.OpenSettings.{OpenSettings}
-use Rattle.reader_state.specs.declared.state.StartAnswer.TheVariants.{Refused as StartRefused}
-use Rattle.acceptance.specs.declared.accept.StepAnswer.{StepAnswer}
 use Rattle.reader_state.specs.State.{start_of, start_number}
 use Rattle.reader.specs.Step.{step_number, step_stream, step_subcarrier}
 use Rattle.reader_runs.specs.Sent.{settings_for}
 use Rattle.demands.specs.Demand2.{Begun, IsFrame, GivesSymbol, Accepts}
-use Rattle.frame_steps.specs.declared.steps.FrameAnswer.{FrameAnswer}
-use Rattle.frame_steps.specs.declared.steps.FrameAnswer.TheVariants.{Refused as FrameRefused}
 use Rattle.frame_steps.specs.WholeFrame.{symbol_at, answer_at, refused_as, read_frame_of}
 use Rattle.frame_steps.specs.WholeFrame.{frame_number, frame_seed, frame_symbol, frame_stream, frame_subcarrier}
 
@@ -34,11 +33,11 @@ ReadsShowing Shows o points payload payload' =
     × (((seed : ℕ) → Shows seed → ⊥) → payload' ≡ payload)
 
 -- the library's answer shows it with number 0
-abbrev pub ReadsFrame : (o : OpenSettings) (points : List Float) (r : FrameAnswer) (payload payload' : List ℕ) → Type 0
+abbrev pub ReadsFrame : (o : OpenSettings) (points : List Float) (r : Result ℕ FrameRefusal) (payload payload' : List ℕ) → Type 0
 ReadsFrame o points r payload payload' = ReadsShowing (λ seed. (frame_number r ≡ 0) × (frame_seed r ≡ seed)) o points payload payload'
 
 -- the answer of a symbol n that is refused, as the frame's: its number, which is 9, 10 or 11, with the symbol's, and the place of 9
-pub record SymbolRefused (r : FrameAnswer) (n : ℕ) (a : StepAnswer) : Type 0 where
+pub record SymbolRefused (r : Result ℕ FrameRefusal) (n : ℕ) (a : Result (Option ℕ) StepRefusal) : Type 0 where
   pub answered : r ≡ refused_as n a
   pub number : frame_number r ≡ step_number a
   pub nine_to_eleven : (frame_number r ≡ 9) ⊎ ((frame_number r ≡ 10) ⊎ (frame_number r ≡ 11))
@@ -49,10 +48,10 @@ pub record SymbolRefused (r : FrameAnswer) (n : ℕ) (a : StepAnswer) : Type 0 w
 -- the settings' refusals, then 8, then 9, 10 or 11 of the first symbol that is refused, with its number
 abbrev pub FrameRefusals : Type 0
 FrameRefusals = (o : OpenSettings) (points : List Float) (bytes : ℕ) → let r = read_frame_of o points bytes in
-    ((e : Refusal) → (start_of o).answer ≡ StartRefused e → (r ≡ FrameRefused e) × (frame_number r ≡ start_number (start_of o).answer))
+    ((e : Refusal) → (start_of o).answer ≡ Err e → (r ≡ Err (FrameRefused e)) × (frame_number r ≡ start_number (start_of o).answer))
     × (Begun o
     → ((frame_number r ≡ 8) ↔ (RoomForFrame o (length points) bytes → ⊥))
-    × ((frame_number r ≡ 8 → r ≡ FrameRefused Room)
+    × ((frame_number r ≡ 8 → r ≡ Err (FrameRefused Room))
     × (RoomForFrame o (length points) bytes → (n : ℕ) → n < symbols_of (settings_for o)
     → ((k : ℕ) → k < n → Accepts (answer_at o points bytes k)) → (Accepts (answer_at o points bytes n) → ⊥)
     → SymbolRefused r n (answer_at o points bytes n))))

@@ -1,53 +1,59 @@
 // The symbols of a whole frame read in order, from one slice of points.
+ghost use Rattle.std.specs.Prelude.{◌≡◌};
+ghost use Rattle.frame_steps.specs.declared.steps.FrameRefusal.TheVariants.{Refused as FrameRefused};
 ghost use Rattle.frame_steps.specs.Asked.{SymbolsAsked, SymbolsRead};
 
-use acceptance::accept::StepAnswer;
+use acceptance::accept::StepRefusal;
 use reader::step::step;
 use reader_state::state::Reader;
 use settings::settings::Refusal;
 
-// The seed; the symbol, stream and subcarrier of the first point that fails; the symbol that 10 or 11 refuses; or the settings' refusal or 8.
+// Why a frame is refused: the symbol, stream and subcarrier of the first point that fails; the symbol that 10 or 11 refuses; or the settings'
+// refusal or 8.
 #[derive(Clone, Copy)]
-pub enum FrameAnswer {
-    Read(u8),
+pub enum FrameRefusal {
     BadPoint(u64, u8, i32),
     BadSymbol(u64, Refusal),
     Refused(Refusal),
 }
 
-// The symbols in order, each from the state that the one before it left; the first refusal ends it.
+impl From<Refusal> for FrameRefusal {
+    ghost from_gives = { λ r e. e ≡ FrameRefused r };
+
+    fn from(r: Refusal) -> FrameRefusal {
+        FrameRefusal::Refused(r)
+    }
+}
+
+// The seed, or the first refusal: the symbols in order, each from the state that the one before it left.
 pub fn read_symbols(
     reader: Reader,
     count: u64,
     floats: usize,
     points: &[f32],
     payload: &mut [u8],
-) -> FrameAnswer
+) -> Result<u8, FrameRefusal>
     requires { SymbolsAsked reader count floats points.now payload.old }
     ensures { SymbolsRead reader points.now result payload.old payload.new }
 {
     let mut state = reader;
     let mut seed: u8 = 0;
-    let mut n: u64 = 0;
     let mut at: usize = 0;
-    while n < count {
+    for n in 0..count {
         let stepped = step(state, &points[at..], payload);
-        let answer = stepped.answer;
-        match answer {
-            StepAnswer::First(k) => {
-                seed = k;
+        match stepped.answer {
+            Ok(first) => {
+                seed = first.unwrap_or(seed);
             }
-            StepAnswer::Next => {}
-            StepAnswer::BadPoint(i, z) => {
-                return FrameAnswer::BadPoint(n, i, z);
+            Err(StepRefusal::BadPoint(i, z)) => {
+                return Err(FrameRefusal::BadPoint(n, i, z));
             }
-            StepAnswer::Refused(r) => {
-                return FrameAnswer::BadSymbol(n, r);
+            Err(StepRefusal::Refused(r)) => {
+                return Err(FrameRefusal::BadSymbol(n, r));
             }
         }
         state = stepped.state;
-        n += 1;
         at += floats;
     }
-    FrameAnswer::Read(seed)
+    Ok(seed)
 }

@@ -1,4 +1,6 @@
 -- The rows of lines: their parts as they are pushed, and how long they are. Assumes nothing.
+use Rattle.std.specs.Prelude.{Err, Ok, Result}
+use Rattle.settings.specs.declared.settings.Settings.{Settings}
 use mathlib.Core.Path.{◌≡◌, refl, sym, ap, subst, ◌∙◌}
 use mathlib.Core.List.{List, [], ◌∷◌, ◌++◌, append-nil}
 use Prim.Native.Nat.{ℕ, ◌+◌, ◌-◌, ◌*◌, ◌<◌, ◌≤◌}
@@ -6,9 +8,6 @@ use native.Mathlib.Omega.{arith}
 use lib.ListN.{length, length-append, replicate}
 use Rattle.settings.specs.declared.settings.RawSettings.{RawSettings}
 use Rattle.settings.specs.declared.settings.Refusal.{Refusal}
-use Rattle.settings.specs.declared.settings.Checked.{Checked}
-use Rattle.settings.specs.declared.settings.Checked.TheVariants.{Accepted, Refused}
-use Rattle.symbols.specs.declared.count.Count.TheVariants.{Symbols, Refused as CountRefused}
 use Rattle.settings.specs.Settings.{check_of, number_of}
 use Rattle.symbols.specs.Symbols.{symbols_of, count_of}
 use Rattle.signal.specs.HtSig.{written_into}
@@ -54,27 +53,27 @@ accepted_pushed z a b c r k sig ea eb ec er = rw (er, ec, eb, ea) (simp pushed_a
 -- ---- the answer by the count
 
 -- a count has at most five digits
-pub count_small : (a : RawSettings) (k : ℕ) → Symbols k ≡ count_of (check_of a) → k < 100000
+pub count_small : (a : RawSettings) (k : ℕ) → Ok k ≡ count_of (check_of a) → k < 100000
 count_small a k = by (check_of a) refl
   where
-    by : (x : Checked) → check_of a ≡ x → Symbols k ≡ count_of x → k < 100000
-    by (Accepted s) p e =
+    by : (x : Result Settings Refusal) → check_of a ≡ x → Ok k ≡ count_of x → k < 100000
+    by (Ok s) p e =
         let z : k ≡ symbols_of s = cc in
         omega (arith, symbols_few s (right a s p))
-    by (Refused r) p e = let z : ◌≡◌ {A = ℕ} 0 1 = cc in absurd (omega arith)
+    by (Err r) p e = let z : ◌≡◌ {A = ℕ} 0 1 = cc in absurd (omega arith)
 
-pub six_bytes : (x : Checked) (sig : List ℕ) → sig ≡ written_into x zeros → length sig ≡ 6
+pub six_bytes : (x : Result Settings Refusal) (sig : List ℕ) → sig ≡ written_into x zeros → length sig ≡ 6
 six_bytes x sig e = ap length e ∙ (rest_stays x zeros).1
 
-accepted_answer : (x : Checked) (k : ℕ) → Symbols k ≡ count_of x → accepted_text k (written_into x zeros) ≡ answer_text x
-accepted_answer (Accepted s) k e =
+accepted_answer : (x : Result Settings Refusal) (k : ℕ) → Ok k ≡ count_of x → accepted_text k (written_into x zeros) ≡ answer_text x
+accepted_answer (Ok s) k e =
     let z : k ≡ symbols_of s = cc in
     rw (z, append-nil)
-accepted_answer (Refused r) k e = let z : ◌≡◌ {A = ℕ} 0 1 = cc in absurd (omega arith)
+accepted_answer (Err r) k e = let z : ◌≡◌ {A = ℕ} 0 1 = cc in absurd (omega arith)
 
-refused_answer : (x : Checked) (q : Refusal) → CountRefused q ≡ count_of x → refused_text q ≡ answer_text x
-refused_answer (Accepted s) q e = let z : ◌≡◌ {A = ℕ} 0 1 = cc in absurd (omega arith)
-refused_answer (Refused r) q e =
+refused_answer : (x : Result Settings Refusal) (q : Refusal) → Err q ≡ count_of x → refused_text q ≡ answer_text x
+refused_answer (Ok s) q e = let z : ◌≡◌ {A = ℕ} 0 1 = cc in absurd (omega arith)
+refused_answer (Err r) q e =
     let z : q ≡ r = cc in
     ap refused_text z
 
@@ -85,11 +84,11 @@ module _ (z i r : Row) (m w n : ℕ) (a : RawSettings) (ei : i ≡ pushed_all z 
       ∙ sym (pushed_all_append z (inputs_text m w n) t)
       ∙ ap (λ (x : List ℕ). pushed_all z (inputs_text m w n ++ x)) (k ∙ ap (λ (x : RawSettings). answer_text (check_of x)) ea)
 
-  pub row_accepted : (k : ℕ) (sig : List ℕ) → Symbols k ≡ count_of (check_of a) → sig ≡ written_into (check_of a) zeros → r ≡ pushed_all i (accepted_text k sig)
+  pub row_accepted : (k : ℕ) (sig : List ℕ) → Ok k ≡ count_of (check_of a) → sig ≡ written_into (check_of a) zeros → r ≡ pushed_all i (accepted_text k sig)
       → r ≡ pushed_all z (row_for m w n)
   row_accepted k sig c s e = behind (accepted_text k sig) e (ap (accepted_text k) s ∙ accepted_answer (check_of a) k c)
 
-  pub row_refused : (q : Refusal) → CountRefused q ≡ count_of (check_of a) → r ≡ pushed_all i (refused_text q) → r ≡ pushed_all z (row_for m w n)
+  pub row_refused : (q : Refusal) → Err q ≡ count_of (check_of a) → r ≡ pushed_all i (refused_text q) → r ≡ pushed_all z (row_for m w n)
   row_refused q c e = behind (refused_text q) e (refused_answer (check_of a) q c)
 
 -- ---- a row has at most 40 bytes
@@ -98,10 +97,10 @@ inputs_short : (m w n : ℕ) → length (inputs_text m w n) ≤ 18
 inputs_short m w n =
     simp length-append (omega (arith, decimal_short m, decimal_short w, decimal_short n))
 
-answer_short : (x : Checked) → length (answer_text x) ≤ 19
-answer_short (Accepted s) =
+answer_short : (x : Result Settings Refusal) → length (answer_text x) ≤ 19
+answer_short (Ok s) =
     simp (length-append, hex_length, six_length) (omega (arith, decimal_short (symbols_of s)))
-answer_short (Refused r) = simp length-append (omega (arith, decimal_short (number_of r)))
+answer_short (Err r) = simp length-append (omega (arith, decimal_short (number_of r)))
 
 by_short : (p : Parsed) → length (row_by p) ≤ 40
 by_short (Numbers m w n) =

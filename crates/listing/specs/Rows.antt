@@ -1,10 +1,9 @@
 -- "Fields printed: the three inputs without leading zeros, the symbol count, the six signal bytes in order in capitals;
 -- or the inputs and `refused` with its number" (document 01, 'Checked by hand').
-use Rattle.std.specs.Prelude.{true, false, List, [], ◌∷◌, ◌++◌, ℕ}
+use Rattle.settings.specs.declared.settings.Settings.{Settings}
+use Rattle.std.specs.Prelude.{true, false, List, [], ◌∷◌, ◌++◌, ℕ, Err, Ok, Result}
 use Rattle.settings.specs.declared.settings.RawSettings.{RawSettings}
 use Rattle.settings.specs.declared.settings.Refusal.{Refusal}
-use Rattle.settings.specs.declared.settings.Checked.{Checked}
-use Rattle.settings.specs.declared.settings.Checked.TheVariants.{Accepted, Refused}
 use Rattle.settings.specs.Settings.{check_of, number_of}
 use Rattle.symbols.specs.Symbols.{symbols_of}
 use Rattle.signal.specs.HtSig.{fields_of, sig_bytes}
@@ -40,9 +39,9 @@ refused_text r = refused_word ++ (decimal (number_of r) ++ (10 ∷ []))
 abbrev pub accepted_text : ℕ → List ℕ → List ℕ
 accepted_text symbols sig = decimal symbols ++ (32 ∷ (hex_bytes sig ++ (10 ∷ [])))
 
-abbrev pub answer_text : Checked → List ℕ
-answer_text (Accepted s) = accepted_text (symbols_of s) (sig_bytes (fields_of s))
-answer_text (Refused r) = refused_text r
+abbrev pub answer_text : Result Settings Refusal → List ℕ
+answer_text (Ok s) = accepted_text (symbols_of s) (sig_bytes (fields_of s))
+answer_text (Err r) = refused_text r
 
 abbrev pub row_for : (mcs width length : ℕ) → List ℕ
 row_for m w n = inputs_text m w n ++ answer_text (check_of (raw_for m w n))

@@ -10,7 +10,6 @@ use parsing::numbers::Parsed;
 use settings::settings::{RawSettings, Refusal, number};
 use signal::ht_sig;
 use symbols::count;
-use symbols::count::Count;
 use text::printing;
 use text::printing::Row;
 
@@ -79,8 +78,8 @@ fn answered_row(mcs: u64, width: u64, length: u64) -> Row
     let inputs = inputs_row(mcs, width, length);
     let raw = raw_for(mcs, width, length);
     match count::symbol_count(raw) {
-        Count::Refused(r) => refused_row(inputs, r),
-        Count::Symbols(n) => {
+        Err(r) => refused_row(inputs, r),
+        Ok(n) => {
             let sig = sig_bytes(raw);
             accepted_row(inputs, n, &sig)
         }

@@ -1,4 +1,5 @@
 -- What accepted settings and a frame's half labels give the question's inner functions, and its answer by the tests. Assumes nothing.
+use Rattle.std.specs.Prelude.{Err, Ok, Result}
 use mathlib.Core.Path.{◌≡◌, ◌∙◌, sym, ap, ap₂, subst}
 use mathlib.Core.Bool.{Bool, false, cond, ◌||◌}
 use mathlib.Core.List.{List}
@@ -30,8 +31,6 @@ use Rattle.pilots.specs.Pilots.{sign_of, pattern_of, polarity_bit, pilot_sign, P
 use Rattle.settings.specs.declared.settings.Refusal.{Refusal}
 use Rattle.settings.specs.declared.settings.Refusal.TheVariants.{Source, Place}
 use Rattle.settings.specs.declared.settings.Settings.{Settings}
-use Rattle.settings.specs.declared.settings.Checked.{Checked}
-use Rattle.settings.specs.declared.settings.Checked.TheVariants.{Accepted, Refused}
 use Rattle.settings.specs.Settings.{plan_for, Right}
 use Rattle.symbols.specs.Symbols.{symbols_of}
 use Rattle.settings.proofs.SettingsLaws.{plan_fits, planned_width}
@@ -40,7 +39,6 @@ use Rattle.frame.specs.Asked.{InFrame, LabelsHeld}
 use Rattle.frame.proofs.FrameLaws.{held_small}
 use Rattle.query.specs.declared.query.Carried.{Carried}
 use Rattle.query.specs.declared.query.Carried.TheVariants.{Silent, Pilot, Data}
-use Rattle.query.specs.declared.query.QueryAnswer.TheVariants.{Carries, Refused as QueryRefused}
 use Rattle.query.specs.Query.{carried_by, carried_of, not_in_frame, query_of}
 
 inside : (i streams count upto size : ℕ) → i < streams → upto ≤ count → streams * count ≤ size → i * count + upto ≤ size
@@ -158,23 +156,23 @@ module _ (s : Settings) (r : Right s) (z : ℤ) (inside : Inside (plan_for s).wi
   data_in c e = rw (plan_fits s r).carriers_is (used (DataAt c) e)
 
 -- the answer where the settings are refused
-pub query_refused : (x : Checked) (r : Refusal) (payload : List ℕ) (symbol stream : ℕ) (z : ℤ) → x ≡ Refused r
-    → QueryRefused r ≡ query_of x payload symbol stream z
-query_refused x r payload symbol stream z e = ap (λ (y : Checked). query_of y payload symbol stream z) (sym e)
+pub query_refused : (x : Result Settings Refusal) (r : Refusal) (payload : List ℕ) (symbol stream : ℕ) (z : ℤ) → x ≡ Err r
+    → Err r ≡ query_of x payload symbol stream z
+query_refused x r payload symbol stream z e = ap (λ (y : Result Settings Refusal). query_of y payload symbol stream z) (sym e)
 
 -- and where they are accepted
 module _ (s : Settings) (payload : List ℕ) (symbol stream : ℕ) (z : ℤ) where
   -- by the tests' values
-  pub query_by : (x : Checked) (short elsewhere : Bool) → x ≡ Accepted s → ltb (length payload) s.length ≡ short → elsewhere ≡ not_in_frame s symbol stream z
-      → cond short (QueryRefused Source) (cond elsewhere (QueryRefused Place) (Carries (carried_of s payload symbol stream z))) ≡ query_of x payload symbol stream z
+  pub query_by : (x : Result Settings Refusal) (short elsewhere : Bool) → x ≡ Ok s → ltb (length payload) s.length ≡ short → elsewhere ≡ not_in_frame s symbol stream z
+      → cond short (Err Source) (cond elsewhere (Err Place) (Ok (carried_of s payload symbol stream z))) ≡ query_of x payload symbol stream z
   query_by x short elsewhere e f g =
-      ap₂ (λ (a b : Bool). cond a (QueryRefused Source) (cond b (QueryRefused Place) (Carries (carried_of s payload symbol stream z)))) (sym f) g
-      ∙ ap (λ (y : Checked). query_of y payload symbol stream z) (sym e)
+      ap₂ (λ (a b : Bool). cond a (Err Source) (cond b (Err Place) (Ok (carried_of s payload symbol stream z)))) (sym f) g
+      ∙ ap (λ (y : Result Settings Refusal). query_of y payload symbol stream z) (sym e)
 
   -- and what is carried where both are false
-  pub query_carries : (x : Checked) (k : Carried) (y : ℤ) → x ≡ Accepted s → ltb (length payload) s.length ≡ false → false ≡ not_in_frame s symbol stream z
-      → y ≡ z → k ≡ carried_of s payload symbol stream y → Carries k ≡ query_of x payload symbol stream z
-  query_carries x k y e f g i h = ap Carries (h ∙ ap (carried_of s payload symbol stream) i) ∙ query_by x false false e f g
+  pub query_carries : (x : Result Settings Refusal) (k : Carried) (y : ℤ) → x ≡ Ok s → ltb (length payload) s.length ≡ false → false ≡ not_in_frame s symbol stream z
+      → y ≡ z → k ≡ carried_of s payload symbol stream y → Ok k ≡ query_of x payload symbol stream z
+  query_carries x k y e f g i h = ap Ok (h ∙ ap (carried_of s payload symbol stream) i) ∙ query_by x false false e f g
 
   -- where both are false, symbol, stream and subcarrier are in the frame
   pub in_frame : Right s → ltb (length payload) s.length ≡ false → not_in_frame s symbol stream z ≡ false

@@ -1,4 +1,7 @@
 -- The refusals of the one-subcarrier question, each given exactly when its row of document 01's table applies and none tested before it does. Assumes nothing.
+use Rattle.std.specs.Prelude.{Err, Ok, Result}
+use Rattle.settings.specs.declared.settings.Refusal.{Refusal}
+use Rattle.settings.specs.declared.settings.Settings.{Settings}
 use mathlib.Core.Path.{◌≡◌, refl, sym, subst}
 use mathlib.Core.Bool.{Bool, true, false, cond, ◌||◌}
 use mathlib.Core.List.{List, [], ◌∷◌, ◌++◌}
@@ -15,13 +18,11 @@ use Rattle.laws.proofs.Reflect.{T_true, true_T, either}
 use Rattle.subcarriers.specs.Subcarriers.{reach, outside}
 use Rattle.settings.specs.declared.settings.Refusal.TheVariants.{Source, Place}
 use Rattle.settings.specs.declared.settings.RawSettings.{RawSettings}
-use Rattle.settings.specs.declared.settings.Checked.{Checked}
 use Rattle.settings.specs.Settings.{settings_of, check_of, plan_for}
 use Rattle.symbols.specs.Symbols.{symbols_of}
 use Rattle.settings.proofs.Refusals.{settingsRules, after_settings}
 use Rattle.frame.proofs.Refusals.{at_most, sourceRule}
 use Rattle.query.specs.declared.query.Carried.{Carried}
-use Rattle.query.specs.declared.query.QueryAnswer.TheVariants.{Carries, Refused as QueryRefused}
 use Rattle.query.specs.Query.{carried_of, not_in_frame, query_of, query_number}
 use Rattle.query.specs.Statements.{OutsideRow, PlaceRow, QueryRefusals}
 use Rattle.settings.proofs.SettingsLaws.{planned_width}
@@ -53,10 +54,10 @@ module _ (a : RawSettings) where
 pub query_refusals : QueryRefusals
 query_refusals a payload symbol stream z =
     given_exactly (query_number (query_of (check_of a) payload symbol stream z)) (settingsRules a ++ queryRules a (length payload) symbol stream z) tt
-    (after_settings a (λ (c : Checked). query_number (query_of c payload symbol stream z)) (queryRules a (length payload) symbol stream z) (λ r. refl)
+    (after_settings a (λ (c : Result Settings Refusal). query_number (query_of c payload symbol stream z)) (queryRules a (length payload) symbol stream z) (λ r. refl)
     (go (ltb (length payload) a.length) (not_in_frame (settings_of a) symbol stream z) (carried_of (settings_of a) payload symbol stream z)))
   where
-    go : (s n : Bool) (c : Carried) → query_number (cond s (QueryRefused Source) (cond n (QueryRefused Place) (Carries c))) ≡ cond s 6 (cond n 7 0)
+    go : (s n : Bool) (c : Carried) → query_number (cond s (Err Source) (cond n (Err Place) (Ok c))) ≡ cond s 6 (cond n 7 0)
     go true n c = refl
     go false true c = refl
     go false false c = refl

@@ -1,5 +1,6 @@
 -- The one-subcarrier question (document 01, 'From payload to points'): what a stream carries on one subcarrier, before step 8.
-use Rattle.std.specs.Prelude.{Bool, cond, ◌||◌, List, ℕ, ltb, leb, length, ℤ, pos}
+use Rattle.settings.specs.declared.settings.Refusal.{Refusal}
+use Rattle.std.specs.Prelude.{Bool, cond, ◌||◌, List, ℕ, ltb, leb, length, ℤ, pos, Err, Ok, Result}
 use Rattle.mapper.specs.declared.point.Point.{Point}
 use Rattle.mapper.specs.Levels.{whole, Levels, levels, carrier_levels, point_of}
 use Rattle.subcarriers.specs.declared.layout.Use.{Use}
@@ -8,15 +9,11 @@ use Rattle.subcarriers.specs.Subcarriers.{use_of, outside}
 use Rattle.pilots.specs.Pilots.{pilot_sign}
 use Rattle.settings.specs.declared.settings.Refusal.TheVariants.{Source, Place}
 use Rattle.settings.specs.declared.settings.Settings.{Settings}
-use Rattle.settings.specs.declared.settings.Checked.{Checked}
-use Rattle.settings.specs.declared.settings.Checked.TheVariants.{Accepted, Refused}
 use Rattle.settings.specs.Settings.{number_of, plan_for}
 use Rattle.symbols.specs.Symbols.{symbols_of}
 use Rattle.frame.specs.Points.{labels_of}
 use Rattle.query.specs.declared.query.Carried.{Carried}
 use Rattle.query.specs.declared.query.Carried.TheVariants.{Silent, Pilot, Data}
-use Rattle.query.specs.declared.query.QueryAnswer.{QueryAnswer}
-use Rattle.query.specs.declared.query.QueryAnswer.TheVariants.{Carries, Refused as QueryRefused}
 
 -- by the subcarrier's use: "silent, carries a pilot sign, or carries a data point (before step 8)"
 abbrev pub carried_by : (sign : ℕ → ℤ) (carried : ℕ → Levels) → Use → Carried
@@ -34,16 +31,16 @@ abbrev pub not_in_frame : (s : Settings) (symbol stream : ℕ) (z : ℤ) → Boo
 not_in_frame s symbol stream z = leb (symbols_of s) symbol || (leb (plan_for s).streams stream || outside (plan_for s).width z)
 
 -- the answer: the settings' refusals, then 6 and 7, or what is carried
-abbrev pub query_of : Checked → (payload : List ℕ) (symbol stream : ℕ) (z : ℤ) → QueryAnswer
-query_of (Accepted s) payload symbol stream z =
-    cond (ltb (length payload) s.length) (QueryRefused Source)
-    (cond (not_in_frame s symbol stream z) (QueryRefused Place) (Carries (carried_of s payload symbol stream z)))
-query_of (Refused r) payload symbol stream z = QueryRefused r
+abbrev pub query_of : Result Settings Refusal → (payload : List ℕ) (symbol stream : ℕ) (z : ℤ) → Result Carried Refusal
+query_of (Ok s) payload symbol stream z =
+    cond (ltb (length payload) s.length) (Err Source)
+    (cond (not_in_frame s symbol stream z) (Err Place) (Ok (carried_of s payload symbol stream z)))
+query_of (Err r) payload symbol stream z = Err r
 
 -- document 01's number of each case, 0 where something is answered
-abbrev pub query_number : QueryAnswer → ℕ
-query_number (Carries c) = 0
-query_number (QueryRefused r) = number_of r
+abbrev pub query_number : Result Carried Refusal → ℕ
+query_number (Ok c) = 0
+query_number (Err r) = number_of r
 
 -- the values of each case: a silent subcarrier's point is (0, 0), a pilot's (sign, 0)
 abbrev pub carried_point : Carried → Point

@@ -12,7 +12,7 @@ use chain::plan::{MOST_HALVES, axis_bits};
 use frame::points::labels_of;
 use mapper::point::{Point, data_point, level_table};
 use pilots::pilot::{pilot_sign, polarity_bit};
-use settings::settings::{Checked, RawSettings, Refusal, Settings, check, plan_of, refusal_of};
+use settings::settings::{RawSettings, Refusal, Settings, check, plan_of};
 use subcarriers::layout::{Use, is_outside, use_of};
 use symbols::count::symbols_of;
 
@@ -22,12 +22,6 @@ pub enum Carried {
     Silent,
     Pilot(f32),
     Data(Point),
-}
-
-#[derive(Clone, Copy)]
-pub enum QueryAnswer {
-    Carries(Carried),
-    Refused(Refusal),
 }
 
 // The pilot at place q.
@@ -89,20 +83,17 @@ pub fn subcarrier(
     symbol: u64,
     stream: u64,
     subcarrier: i32,
-) -> QueryAnswer
+) -> Result<Carried, Refusal>
     ensures { result ≡ query_of (check_of raw) payload.now symbol stream subcarrier }
 {
-    let checked = check(raw);
-    let Checked::Accepted(s) = checked else {
-        return QueryAnswer::Refused(refusal_of(checked));
-    };
+    let s = check(raw)?;
     let short = payload.len() < s.length as usize;
     if short {
-        return QueryAnswer::Refused(Refusal::Source);
+        return Err(Refusal::Source);
     }
     let elsewhere = not_in_frame(s, symbol, stream, subcarrier);
     if elsewhere {
-        return QueryAnswer::Refused(Refusal::Place);
+        return Err(Refusal::Place);
     }
-    QueryAnswer::Carries(carried_at(payload, s, symbol as usize, stream as usize, subcarrier))
+    Ok(carried_at(payload, s, symbol as usize, stream as usize, subcarrier))
 }

@@ -1,4 +1,7 @@
 -- The step from a symbol's label bits on and from its points on, and the whole step by its tests. Assumes nothing.
+use Rattle.std.specs.Prelude.{Err, None, Ok, Option, Result, Some}
+use Rattle.settings.specs.declared.settings.Refusal.{Refusal}
+use Rattle.acceptance.specs.declared.accept.StepRefusal.TheVariants.{BadPoint, Refused as StepRefused}
 use mathlib.Core.Path.{◌≡◌, ◌∙◌, refl, sym, ap, ap₂, subst}
 use mathlib.Core.Bool.{Bool, true, false, cond, ◌||◌}
 use mathlib.Core.List.{List, [], ◌∷◌}
@@ -19,23 +22,18 @@ use Rattle.chain.specs.declared.plan.Plan.{Plan}
 use Rattle.chain.specs.Decoder.{decoded_input, decodes}
 use Rattle.settings.specs.declared.settings.Refusal.TheVariants.{Room, Code, Closed}
 use Rattle.settings.specs.declared.settings.Settings.{Settings}
-use Rattle.settings.specs.declared.settings.Checked.{Checked}
-use Rattle.settings.specs.declared.settings.Checked.TheVariants.{Accepted}
 use Rattle.settings.specs.Settings.{check_of, plan_for, Right}
 use Rattle.settings.proofs.SettingsLaws.{plan_fits, planned_width}
 use Rattle.subcarriers.specs.Subcarriers.{places_of, subcarrier_at}
 use Rattle.subcarriers.proofs.SubcarrierLaws.{places_some}
 use Rattle.pilots.proofs.PilotLaws.{streams_range}
 use Rattle.frame.specs.Points.{floats_of}
-use Rattle.detector.specs.declared.search.Search.{Search}
-use Rattle.detector.specs.declared.search.Search.TheVariants.{AllGiven, At}
 use Rattle.detector.specs.Detected.{search_of, shown_bit, fails_at}
 use Rattle.detector.specs.Asked.{BitsShown, SymbolBitsAsked}
 use Rattle.decoder.specs.Decoded.{history_moved, SymbolInputsAsked}
 use Rattle.deinterleaver.specs.Deinterleaved.{label_bit_in}
 use Rattle.decoder.proofs.ExtLaws.{decoded_ext, decodes_ext, moved_ext}
 use Rattle.reader_state.specs.declared.state.Reader.{Reader}
-use Rattle.acceptance.specs.declared.accept.StepAnswer.TheVariants.{BadPoint, Refused as StepRefused}
 use Rattle.acceptance.specs.declared.accept.Stepped.{Stepped}
 use Rattle.reader_state.specs.State.{InRange, open_raw, history_of, closed_of, ended_of}
 use Rattle.acceptance.specs.Accepted.{answered, bytes_into, step_into_by, by_frame}
@@ -56,8 +54,8 @@ module _ (s : Settings) (right : Right s) (st : Reader) where
 
   -- 10 is refused
   pub bits_refused : (lab : ℕ → ℕ → ℕ) (after : Reader) → decodes (plan_for s) (history_of st) lab ≡ false → after ≡ ended_of st
-      → answered (StepRefused Code) after ≡ by_code s st lab
-  bits_refused lab after e f = ap (answered (StepRefused Code)) f ∙ simp e
+      → answered (Err (StepRefused Code)) after ≡ by_code s st lab
+  bits_refused lab after e f = ap (answered (Err (StepRefused Code))) f ∙ simp e
 
   -- 10 is not, and the inputs that were decoded stand in a list
   module _ (lab : ℕ → ℕ → ℕ) (inputs : List ℕ) (filled : (d : ℕ) → d < (plan_for s).dbps → get_or inputs d 0 ≡ heard_input s st lab d) where
@@ -76,7 +74,7 @@ module _ (s : Settings) (right : Right s) (st : Reader) where
 
     pub code_by : by_code s st lab ≡ by_code s st lab'
     code_by =
-        ap₂ (λ (t : Bool) (w : Stepped). cond t w (answered (StepRefused Code) (ended_of st)))
+        ap₂ (λ (t : Bool) (w : Stepped). cond t w (answered (Err (StepRefused Code)) (ended_of st)))
         (decodes_ext (plan_for s) (plan_fits s right) (history_of st) lab lab' same)
         (frame_by s right st (heard_input s st lab) (heard_input s st lab') heard_same (histories_after s st (heard_input s st lab))
         ∙ ap (by_frame s st (heard_input s st lab')) (histories_by (heard_input s st lab) (heard_input s st lab') heard_same))
@@ -85,14 +83,14 @@ module _ (s : Settings) (right : Right s) (st : Reader) where
     into_by payload = into_ext s right st (heard_input s st lab) (heard_input s st lab') heard_same payload
 
   -- the search found a place
-  pub points_refused : (points : List Float) (found : Search) (i f : ℕ) (z : ℤ) (after : Reader) → found ≡ At i f
+  pub points_refused : (points : List Float) (found : Option (ℕ × ℕ)) (i f : ℕ) (z : ℤ) (after : Reader) → found ≡ Some (i, f)
       → found ≡ search_of (plan_for s) points s.format st.symbol → z ≡ subcarrier_at s.width f → after ≡ ended_of st
-      → answered (BadPoint i z) after ≡ by_search (search_of (plan_for s) points s.format st.symbol) s st points
+      → answered (Err (BadPoint i z)) after ≡ by_search (search_of (plan_for s) points s.format st.symbol) s st points
   points_refused points found i f z after e g h k =
-      ap₂ (λ (y : ℤ) (w : Reader). answered (BadPoint i y) w) h k ∙ ap (λ (x : Search). by_search x s st points) (sym e ∙ g)
+      ap₂ (λ (y : ℤ) (w : Reader). answered (Err (BadPoint i y)) w) h k ∙ ap (λ (x : Option (ℕ × ℕ)). by_search x s st points) (sym e ∙ g)
 
   -- the search found none
-  pub points_heard : (points : List Float) (found : Search) (bits₀ bits : List ℕ) (r : Stepped) (payload₀ payload : List ℕ) → found ≡ AllGiven
+  pub points_heard : (points : List Float) (found : Option (ℕ × ℕ)) (bits₀ bits : List ℕ) (r : Stepped) (payload₀ payload : List ℕ) → found ≡ None
       → found ≡ search_of (plan_for s) points s.format st.symbol → BitsShown (plan_for s) points found bits₀ bits
       → (r ≡ by_code s st (label_bit_in (plan_for s) bits))
       × (payload ≡ step_into_by r.answer (bytes_into s st (heard_input s st (label_bit_in (plan_for s) bits)) payload₀) payload₀)
@@ -100,33 +98,33 @@ module _ (s : Settings) (right : Right s) (st : Reader) where
       × (payload ≡ step_into_by r.answer (bytes_into s st (heard_input s st (shown_bit (plan_for s) points)) payload₀) payload₀)
   points_heard points found bits₀ bits r payload₀ payload e g shown h =
       let same = shown.shown e in (
-        h.0 ∙ code_by (label_bit_in (plan_for s) bits) (shown_bit (plan_for s) points) same ∙ ap (λ (x : Search). by_search x s st points) (sym e ∙ g),
+        h.0 ∙ code_by (label_bit_in (plan_for s) bits) (shown_bit (plan_for s) points) same ∙ ap (λ (x : Option (ℕ × ℕ)). by_search x s st points) (sym e ∙ g),
         h.1 ∙ ap (λ (w : List ℕ). step_into_by r.answer w payload₀) (into_by (label_bit_in (plan_for s) bits) (shown_bit (plan_for s) points) same payload₀),
       )
 
 -- ---- the calls by their tests
 
 -- by the settings' answer
-module _ (st : Reader) (points : List Float) (payload : List ℕ) (x : Checked) (known : x ≡ check_of (open_raw st.settings)) where
+module _ (st : Reader) (points : List Float) (payload : List ℕ) (x : Result Settings Refusal) (known : x ≡ check_of (open_raw st.settings)) where
   pub step_as : (r : Stepped) (payload' : List ℕ) → r ≡ step_by x st points (length payload)
       → payload' ≡ step_into_by r.answer (written_by x st points payload) payload
       → (r ≡ step_of st points (length payload)) × (payload' ≡ step_into st points payload)
   step_as r payload' e w =
-      let f : r ≡ step_of st points (length payload) = e ∙ ap (λ (y : Checked). step_by y st points (length payload)) known in (
+      let f : r ≡ step_of st points (length payload) = e ∙ ap (λ (y : Result Settings Refusal). step_by y st points (length payload)) known in (
         f,
-        w ∙ ap (λ (y : Checked). step_into_by r.answer (written_by y st points payload) payload) known
+        w ∙ ap (λ (y : Result Settings Refusal). step_into_by r.answer (written_by y st points payload) payload) known
             ∙ ap (λ (q : Stepped). step_into_by q.answer (written_by (check_of (open_raw st.settings)) st points payload) payload) f,
       )
 
 -- by the tests of the state and of the room
 module _ (s : Settings) (st : Reader) (points : List Float) where
   pub step_by_lem : (bytes : ℕ) (closed small : Bool) → closed ≡ closed_of s st → small ≡ no_room s (length points) bytes
-      → cond closed (answered (StepRefused Closed) st)
-      (cond small (answered (StepRefused Room) st) (by_search (search_of (plan_for s) points s.format st.symbol) s st points))
-      ≡ step_by (Accepted s) st points bytes
+      → cond closed (answered (Err (StepRefused Closed)) st)
+      (cond small (answered (Err (StepRefused Room)) st) (by_search (search_of (plan_for s) points s.format st.symbol) s st points))
+      ≡ step_by (Ok s) st points bytes
   step_by_lem bytes closed small e f =
-      ap₂ (λ (a b : Bool). cond a (answered (StepRefused Closed) st)
-      (cond b (answered (StepRefused Room) st) (by_search (search_of (plan_for s) points s.format st.symbol) s st points))) e f
+      ap₂ (λ (a b : Bool). cond a (answered (Err (StepRefused Closed)) st)
+      (cond b (answered (Err (StepRefused Room)) st) (by_search (search_of (plan_for s) points s.format st.symbol) s st points))) e f
 
 -- ---- what the parts of the step ask of each other
 
@@ -196,15 +194,15 @@ module _ (s : Settings) (st : Reader) (p : Plan) (plan : p ≡ plan_for s) where
         near = omega (arith, symbol_few s right st.symbol inside.below_count);
       })
 
-  pub search_by : (points : List Float) (found : Search) → found ≡ search_of p points s.format st.symbol
+  pub search_by : (points : List Float) (found : Option (ℕ × ℕ)) → found ≡ search_of p points s.format st.symbol
       → found ≡ search_of (plan_for s) points s.format st.symbol
   search_by points found e = e ∙ ap (λ (q : Plan). search_of q points s.format st.symbol) plan
 
-  pub shown_by : (points : List Float) (found : Search) (bits₀ bits : List ℕ) → BitsShown p points found bits₀ bits
+  pub shown_by : (points : List Float) (found : Option (ℕ × ℕ)) (bits₀ bits : List ℕ) → BitsShown p points found bits₀ bits
       → BitsShown (plan_for s) points found bits₀ bits
   shown_by points found bits₀ bits = subst (λ (q : Plan). BitsShown q points found bits₀ bits) plan
 
-  pub labels_asked : (bits₀ bits : List ℕ) (points : List Float) (found : Search) (payload : List ℕ) → PointsAsked s st points payload → 2592 ≤ length bits₀
+  pub labels_asked : (bits₀ bits : List ℕ) (points : List Float) (found : Option (ℕ × ℕ)) (payload : List ℕ) → PointsAsked s st points payload → 2592 ≤ length bits₀
       → T (every (λ (x : ℕ). ltb x 2) bits₀) → BitsShown p points found bits₀ bits → HearBitsAsked s st bits payload
   labels_asked bits₀ bits points found payload a room blank shown =
       let fits = plan_fits s a.right in
@@ -216,11 +214,11 @@ module _ (s : Settings) (st : Reader) (p : Plan) (plan : p ≡ plan_for s) where
         whole_payload = a.whole_payload;
       }
 
-abbrev place_in : Search → ℕ
-place_in AllGiven = 0
-place_in (At i f) = f
+abbrev place_in : Option (ℕ × ℕ) → ℕ
+place_in None = 0
+place_in (Some (i, f)) = f
 
-found_few : (t : Bool) (places k : ℕ) → 0 < places → place_in (cond t (At (k / places) (k % places)) AllGiven) < places
+found_few : (t : Bool) (places k : ℕ) → 0 < places → place_in (cond t (Some (k / places, k % places)) None) < places
 found_few true places k some = mod-lt k some
 found_few false places k some = some
 
@@ -233,7 +231,7 @@ search_few p points format n =
     found_few (ltb k total) places k (places_some p.width)
 
 -- a place that the search found is one of the stream's
-pub place_few : (s : Settings) (points : List Float) (n i f : ℕ) (found : Search) → found ≡ At i f → found ≡ search_of (plan_for s) points s.format n
+pub place_few : (s : Settings) (points : List Float) (n i f : ℕ) (found : Option (ℕ × ℕ)) → found ≡ Some (i, f) → found ≡ search_of (plan_for s) points s.format n
     → f < places_of s.width
 place_few s points n i f found e g =
     rw (planned_width s) at (subst (λ (k : ℕ). k < places_of (plan_for s).width) (sym (ap place_in (sym e ∙ g))) (search_few (plan_for s) points s.format n))
@@ -254,12 +252,12 @@ module _ (s : Settings) (floats : ℕ) (counted : floats ≡ floats_of s) where
         whole_payload = ltb-false (length payload) s.length f.1;
       }
 
-abbrev stream_in : Search → ℕ
-stream_in AllGiven = 0
-stream_in (At i f) = i
+abbrev stream_in : Option (ℕ × ℕ) → ℕ
+stream_in None = 0
+stream_in (Some (i, f)) = i
 
 found_stream : (t : Bool) (streams places k : ℕ) → 0 < streams → 0 < places → (t ≡ true → k < streams * places)
-    → stream_in (cond t (At (k / places) (k % places)) AllGiven) < streams
+    → stream_in (cond t (Some (k / places, k % places)) None) < streams
 found_stream true streams places k some wide l = (div-lt_iff_lt-mul wide).1 (l refl)
 found_stream false streams places k some wide l = some
 
@@ -272,7 +270,7 @@ search_stream p points format n some =
     found_stream (ltb k total) p.streams places k some (places_some p.width) (λ e. ltb-true k total e)
 
 -- a stream that the search found is one of the plan's, and few
-pub stream_few : (s : Settings) → Right s → (points : List Float) (n i f : ℕ) (found : Search) → found ≡ At i f
+pub stream_few : (s : Settings) → Right s → (points : List Float) (n i f : ℕ) (found : Option (ℕ × ℕ)) → found ≡ Some (i, f)
     → found ≡ search_of (plan_for s) points s.format n → i < 4
 stream_few s right points n i f found e g =
     let fits = plan_fits s right in

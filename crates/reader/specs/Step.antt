@@ -1,21 +1,18 @@
 -- The strict reader's step from any state (document 01, refusals 12, 8, 9, 10, 11 in this order, and "it carries two six-bit encoder histories, the scrambler
 -- and a part of a byte"): its answer, the state that it returns, and the payload's bytes afterwards.
-use Rattle.std.specs.Prelude.{Bool, cond, ◌||◌, List, [], ◌∷◌, ℕ, ltb, length, ℤ, pos, Float}
+use Rattle.settings.specs.declared.settings.Refusal.{Refusal}
+use Rattle.acceptance.specs.declared.accept.StepRefusal.{StepRefusal}
+use Rattle.acceptance.specs.declared.accept.StepRefusal.TheVariants.{BadPoint, Refused as StepRefused}
+use Rattle.std.specs.Prelude.{Bool, cond, ◌||◌, List, [], ◌∷◌, ℕ, ltb, length, ℤ, pos, Float, Err, None, Ok, Option, Result, Some}
 use Rattle.chain.specs.Decoder.{decoded_input, decodes}
 use Rattle.settings.specs.declared.settings.Refusal.TheVariants.{Room, Code, Closed}
 use Rattle.settings.specs.declared.settings.Settings.{Settings}
-use Rattle.settings.specs.declared.settings.Checked.{Checked}
-use Rattle.settings.specs.declared.settings.Checked.TheVariants.{Accepted, Refused}
 use Rattle.settings.specs.Settings.{number_of, check_of, plan_for}
 use Rattle.subcarriers.specs.Subcarriers.{subcarrier_at}
 use Rattle.frame.specs.Points.{floats_of}
-use Rattle.detector.specs.declared.search.Search.{Search}
-use Rattle.detector.specs.declared.search.Search.TheVariants.{AllGiven, At}
 use Rattle.detector.specs.Detected.{search_of, shown_bit}
 use Rattle.decoder.specs.Decoded.{history_moved}
 use Rattle.reader_state.specs.declared.state.Reader.{Reader}
-use Rattle.acceptance.specs.declared.accept.StepAnswer.{StepAnswer}
-use Rattle.acceptance.specs.declared.accept.StepAnswer.TheVariants.{First, Next, BadPoint, Refused as StepRefused}
 use Rattle.acceptance.specs.declared.accept.Stepped.{Stepped}
 use Rattle.reader_state.specs.State.{open_raw, history_of, closed_of, ended_of}
 use Rattle.acceptance.specs.Accepted.{answered, bytes_into, step_into_by, by_frame}
@@ -32,34 +29,34 @@ histories_after s st X = history_moved (plan_for s) (history_of st) X 0 ∷ (his
 
 -- by refusal 10, then by 11
 abbrev pub by_code : Settings → Reader → (lab : ℕ → ℕ → ℕ) → Stepped
-by_code s st lab = cond (decodes (plan_for s) (history_of st) lab) (by_frame s st (heard_input s st lab) (histories_after s st (heard_input s st lab))) (answered (StepRefused Code) (ended_of st))
+by_code s st lab = cond (decodes (plan_for s) (history_of st) lab) (by_frame s st (heard_input s st lab) (histories_after s st (heard_input s st lab))) (answered (Err (StepRefused Code)) (ended_of st))
 
 -- ---- from a symbol's points on
 
 -- by refusal 9 with its place, then by 10 and 11
-abbrev pub by_search : Search → Settings → Reader → List Float → Stepped
-by_search (At i f) s st points = answered (BadPoint i (subcarrier_at s.width f)) (ended_of st)
-by_search AllGiven s st points = by_code s st (shown_bit (plan_for s) points)
+abbrev pub by_search : Option (ℕ × ℕ) → Settings → Reader → List Float → Stepped
+by_search (Some (i, f)) s st points = answered (Err (BadPoint i (subcarrier_at s.width f))) (ended_of st)
+by_search None s st points = by_code s st (shown_bit (plan_for s) points)
 
 -- "the lent slice for points .. or payload is too short"
 abbrev pub no_room : Settings → (floats bytes : ℕ) → Bool
 no_room s floats bytes = ltb floats (floats_of s) || ltb bytes s.length
 
 -- the step: 12, then 8, 9, 10, 11
-abbrev pub step_by : Checked → Reader → List Float → (bytes : ℕ) → Stepped
-step_by (Accepted s) st points bytes =
-    cond (closed_of s st) (answered (StepRefused Closed) st)
-    (cond (no_room s (length points) bytes) (answered (StepRefused Room) st)
+abbrev pub step_by : Result Settings Refusal → Reader → List Float → (bytes : ℕ) → Stepped
+step_by (Ok s) st points bytes =
+    cond (closed_of s st) (answered (Err (StepRefused Closed)) st)
+    (cond (no_room s (length points) bytes) (answered (Err (StepRefused Room)) st)
     (by_search (search_of (plan_for s) points s.format st.symbol) s st points))
-step_by (Refused r) st points bytes = answered (StepRefused Closed) st
+step_by (Err r) st points bytes = answered (Err (StepRefused Closed)) st
 
 abbrev pub step_of : Reader → List Float → (bytes : ℕ) → Stepped
 step_of st points bytes = step_by (check_of (open_raw st.settings)) st points bytes
 
 -- the payload's bytes where the symbol is accepted; a state of refused settings accepts none
-abbrev pub written_by : Checked → Reader → List Float → List ℕ → List ℕ
-written_by (Accepted s) st points payload = bytes_into s st (heard_input s st (shown_bit (plan_for s) points)) payload
-written_by (Refused r) st points payload = payload
+abbrev pub written_by : Result Settings Refusal → Reader → List Float → List ℕ → List ℕ
+written_by (Ok s) st points payload = bytes_into s st (heard_input s st (shown_bit (plan_for s) points)) payload
+written_by (Err r) st points payload = payload
 
 -- the lent payload afterwards
 abbrev pub step_into : Reader → List Float → List ℕ → List ℕ
@@ -67,26 +64,26 @@ step_into st points payload =
     step_into_by (step_of st points (length payload)).answer (written_by (check_of (open_raw st.settings)) st points payload) payload
 
 -- document 01's number of each case, 0 where the symbol is accepted; the seed and the place of each
-abbrev pub step_number : StepAnswer → ℕ
-step_number (First seed) = 0
-step_number Next = 0
-step_number (BadPoint i z) = 9
-step_number (StepRefused r) = number_of r
+abbrev pub step_number : Result (Option ℕ) StepRefusal → ℕ
+step_number (Ok (Some seed)) = 0
+step_number (Ok None) = 0
+step_number (Err (BadPoint i z)) = 9
+step_number (Err (StepRefused r)) = number_of r
 
-abbrev pub step_seed : StepAnswer → ℕ
-step_seed (First seed) = seed
-step_seed Next = 0
-step_seed (BadPoint i z) = 0
-step_seed (StepRefused r) = 0
+abbrev pub step_seed : Result (Option ℕ) StepRefusal → ℕ
+step_seed (Ok (Some seed)) = seed
+step_seed (Ok None) = 0
+step_seed (Err (BadPoint i z)) = 0
+step_seed (Err (StepRefused r)) = 0
 
-abbrev pub step_stream : StepAnswer → ℕ
-step_stream (First seed) = 0
-step_stream Next = 0
-step_stream (BadPoint i z) = i
-step_stream (StepRefused r) = 0
+abbrev pub step_stream : Result (Option ℕ) StepRefusal → ℕ
+step_stream (Ok (Some seed)) = 0
+step_stream (Ok None) = 0
+step_stream (Err (BadPoint i z)) = i
+step_stream (Err (StepRefused r)) = 0
 
-abbrev pub step_subcarrier : StepAnswer → ℤ
-step_subcarrier (First seed) = pos 0
-step_subcarrier Next = pos 0
-step_subcarrier (BadPoint i z) = z
-step_subcarrier (StepRefused r) = pos 0
+abbrev pub step_subcarrier : Result (Option ℕ) StepRefusal → ℤ
+step_subcarrier (Ok (Some seed)) = pos 0
+step_subcarrier (Ok None) = pos 0
+step_subcarrier (Err (BadPoint i z)) = z
+step_subcarrier (Err (StepRefused r)) = pos 0

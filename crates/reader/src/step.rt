@@ -1,19 +1,20 @@
 // One step of the reader: a symbol's points, its label bits, and its inputs, which `acceptance` goes on from.
-ghost use Rattle.std.specs.Prelude.{◌≡◌, length};
+ghost use Rattle.std.specs.Prelude.{◌≡◌, length, Err};
 ghost use Rattle.settings.specs.Settings.{plan_for};
 ghost use Rattle.detector.specs.Detected.{search_of, shown_bit};
 ghost use Rattle.deinterleaver.specs.Deinterleaved.{label_bit_in};
-ghost use Rattle.acceptance.specs.Accepted.{bytes_into, step_into_by};
+ghost use Rattle.acceptance.specs.Accepted.{answered, bytes_into, step_into_by};
+ghost use Rattle.acceptance.specs.declared.accept.StepRefusal.TheVariants.{Refused as StepRefused};
 ghost use Rattle.reader.specs.Step.{by_code, heard_input, by_search, step_of, step_into};
 ghost use Rattle.reader.specs.Asked.{HearBitsAsked, PointsAsked};
 
-use acceptance::accept::{StepAnswer, Stepped, hear_inputs};
+use acceptance::accept::{StepRefusal, Stepped, hear_inputs};
 use chain::plan::{MOST_CODED, MOST_DATA};
 use decoder::forced::symbol_inputs;
-use detector::search::{Search, symbol_bits};
+use detector::search::symbol_bits;
 use frame::points::floats_of;
 use reader_state::state::{Reader, ended, is_closed, raw_of};
-use settings::settings::{Checked, Refusal, Settings, check, plan_of};
+use settings::settings::{Refusal, Settings, check, plan_of};
 use subcarriers::layout::subcarrier_of;
 
 // From the symbol's label bits on: 10, and what the inputs give.
@@ -31,7 +32,7 @@ fn hear_bits(reader: Reader, s: Settings, bits: &[u8], payload: &mut [u8]) -> St
         return hear_inputs(reader, s, &inputs, after, payload);
     }
     Stepped {
-        answer: StepAnswer::Refused(Refusal::Code),
+        answer: Err(StepRefusal::Refused(Refusal::Code)),
         state: ended(reader),
     }
 }
@@ -50,14 +51,23 @@ fn hear_points(reader: Reader, s: Settings, points: &[f32], payload: &mut [u8]) 
         s.format as usize,
         reader.symbol as usize,
     );
-    if let Search::At(i, f) = found {
-        let closed = ended(reader);
+    if let Some((i, f)) = found {
         return Stepped {
-            answer: StepAnswer::BadPoint(i as u8, subcarrier_of(s.width as usize, f)),
-            state: closed,
+            answer: Err(StepRefusal::BadPoint(i as u8, subcarrier_of(s.width as usize, f))),
+            state: ended(reader),
         };
     }
     hear_bits(reader, s, &bits, payload)
+}
+
+// A refusal that leaves the state as it is given.
+fn refused(reader: Reader, r: Refusal) -> Stepped
+    ensures { result ≡ answered (Err (StepRefused r)) reader }
+{
+    Stepped {
+        answer: Err(StepRefusal::Refused(r)),
+        state: reader,
+    }
 }
 
 // The public step: the symbol's points judged, and its complete bytes written only where it is accepted.
@@ -65,27 +75,15 @@ pub fn step(reader: Reader, points: &[f32], payload: &mut [u8]) -> Stepped
     ensures value { result ≡ step_of reader points.now (length payload.old) }
     ensures payload_after { payload.new ≡ step_into reader points.now payload.old }
 {
-    let open = reader.settings;
-    let checked = check(raw_of(open));
-    let Checked::Accepted(s) = checked else {
-        return Stepped {
-            answer: StepAnswer::Refused(Refusal::Closed),
-            state: reader,
-        };
+    let Ok(s) = check(raw_of(reader.settings)) else {
+        return refused(reader, Refusal::Closed);
     };
-    let closed = is_closed(reader, s);
-    if closed {
-        return Stepped {
-            answer: StepAnswer::Refused(Refusal::Closed),
-            state: reader,
-        };
+    if is_closed(reader, s) {
+        return refused(reader, Refusal::Closed);
     }
     let small = (points.len() < floats_of(s)) | (payload.len() < s.length as usize);
     if small {
-        return Stepped {
-            answer: StepAnswer::Refused(Refusal::Room),
-            state: reader,
-        };
+        return refused(reader, Refusal::Room);
     }
     hear_points(reader, s, points, payload)
 }

@@ -1,4 +1,7 @@
 -- The reader's calls on numbers by their tests: the state after a step has its symbol below 2^16, a place is a subcarrier of the channel. Assumes nothing.
+use Rattle.std.specs.Prelude.{Err, None, Ok, Option, Result, Some, ℤ}
+use Rattle.settings.specs.declared.settings.Refusal.{Refusal}
+use Rattle.settings.specs.declared.settings.Settings.{Settings}
 use mathlib.Core.Path.{◌≡◌, ◌∙◌, sym, ap, subst}
 use mathlib.Core.Bool.{Bool, true, false, cond}
 use mathlib.Core.List.{List}
@@ -9,18 +12,13 @@ use lib.Dec.{leb}
 use lib.ListN.{length}
 use lib.Ieee.{Float}
 use Rattle.settings.specs.declared.settings.Refusal.TheVariants.{Closed}
-use Rattle.settings.specs.declared.settings.Checked.{Checked}
-use Rattle.settings.specs.declared.settings.Checked.TheVariants.{Accepted, Refused}
 use Rattle.settings.specs.Settings.{check_of}
 use Rattle.settings.proofs.SettingsLaws.{right}
 use Rattle.symbols.proofs.CountLaws.{symbols_few}
 use Rattle.reader_state.specs.declared.state.OpenSettings.{OpenSettings}
 use Rattle.reader_state.specs.declared.state.Reader.{Reader}
-use Rattle.reader_state.specs.declared.state.StartAnswer.{StartAnswer}
 use Rattle.reader_state.specs.declared.state.Started.{Started}
 use Rattle.acceptance.specs.declared.accept.Stepped.{Stepped}
-use Rattle.reader_place.specs.declared.place.PlaceAnswer.{PlaceAnswer}
-use Rattle.reader_place.specs.declared.place.PlaceAnswer.TheVariants.{Passed, Found, Refused as PlaceRefused}
 use Rattle.reader_state.specs.State.{open_raw, start_by, start_of}
 use Rattle.reader.specs.Step.{step_of, step_into}
 use Rattle.reader_place.specs.Place.{place_of}
@@ -43,22 +41,22 @@ step_small st points bytes h =
 pub place_right : (st : Reader) (points : List Float) → PlaceRight (place_of st points)
 place_right st points = go (place_of st points) (place_in st points)
   where
-    go : (a : PlaceAnswer) → PlaceInFrame a → PlaceRight a
-    go Passed h = tt
-    go (Found i z) h = h.1
-    go (PlaceRefused r) h = h
+    go : (a : Result (Option (ℕ × ℤ)) Refusal) → PlaceInFrame a → PlaceRight a
+    go (Ok None) h = tt
+    go (Ok (Some (i, z))) h = h.1
+    go (Err r) h = h
 
 -- ---- the calls by their tests
 
-start_by_lem : (x : Checked) (o : OpenSettings) → (start_by x o).state.symbol < 65536
-start_by_lem (Accepted s) o = omega arith
-start_by_lem (Refused r) o = omega arith
+start_by_lem : (x : Result Settings Refusal) (o : OpenSettings) → (start_by x o).state.symbol < 65536
+start_by_lem (Ok s) o = omega arith
+start_by_lem (Err r) o = omega arith
 
 pub start_small : (s : Started) (o : OpenSettings) → s ≡ start_of o → s.state.symbol < 65536
 start_small s o e = subst (λ (r : Started). r.state.symbol < 65536) (sym e) (start_by_lem (check_of (open_raw o)) o)
 
-pub started_as : (s : Started) (o : OpenSettings) (a : StartAnswer) → s.answer ≡ a → s ≡ start_of o → started_result a s.state ≡ start_result (start_of o)
-started_as s o a e f = ap (λ (b : StartAnswer). started_result b s.state) (sym e) ∙ ap start_result f
+pub started_as : (s : Started) (o : OpenSettings) (a : Result (Unit {0}) Refusal) → s.answer ≡ a → s ≡ start_of o → started_result a s.state ≡ start_result (start_of o)
+started_as s o a e f = ap (λ (b : Result (Unit {0}) Refusal). started_result b s.state) (sym e) ∙ ap start_result f
 
 module _ (o : OpenSettings) (state : ℕ) (points : List Float) where
   -- a number that is no state
@@ -85,7 +83,7 @@ module _ (o : OpenSettings) (state : ℕ) (points : List Float) where
   step_held st r bytes e f =
       subst Small (sym f) (step_small st points bytes (subst (λ (x : Reader). x.symbol < 65536) (sym e) (mod-lt state (omega arith))))
 
-  pub place_some : (st : Reader) (a : PlaceAnswer) → leb 562949953421312 state ≡ false → st ≡ reader_of o state → a ≡ place_of st points
+  pub place_some : (st : Reader) (a : Result (Option (ℕ × ℤ)) Refusal) → leb 562949953421312 state ≡ false → st ≡ reader_of o state → a ≡ place_of st points
       → placed_result a ≡ place_result o state points
   place_some st a e f g =
       ap placed_result (g ∙ ap (λ (x : Reader). place_of x points) f)

@@ -10,7 +10,7 @@ use reader::step;
 use reader_numbers::{place_number, reader_of, state_number, stepped_number};
 use reader_place::place;
 use reader_state::state;
-use reader_state::state::{OpenSettings, StartAnswer};
+use reader_state::state::OpenSettings;
 use settings::settings::Refusal;
 
 // The reader's state before symbol 0.
@@ -18,11 +18,9 @@ pub fn start_call(settings: OpenSettings) -> i64
     ensures { result ≡ start_result (start_of settings) }
 {
     let started = state::start(settings);
-    let answer = started.answer;
-    let begun = started.state;
-    match answer {
-        StartAnswer::Ready => state_number(begun) as i64,
-        StartAnswer::Refused(r) => refused(r),
+    match started.answer {
+        Ok(()) => state_number(started.state) as i64,
+        Err(r) => refused(r),
     }
 }
 

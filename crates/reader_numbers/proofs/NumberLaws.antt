@@ -1,4 +1,5 @@
 -- The number of a place, and of an answer that is none. Assumes nothing.
+use Rattle.std.specs.Prelude.{Err}
 use mathlib.Core.Path.{◌≡◌, ◌∙◌, sym, ap}
 use Prim.Native.Nat.{ℕ, ◌+◌, ◌*◌, ◌<◌}
 use native.Mathlib.Omega.{arith}
@@ -11,7 +12,6 @@ use Rattle.settings.specs.declared.settings.Refusal.{Refusal}
 use Rattle.settings.specs.Settings.{number_of}
 use Rattle.settings.proofs.SettingsLaws.{number_range}
 use Rattle.subcarriers.specs.Subcarriers.{subcarrier_from}
-use Rattle.reader_place.specs.declared.place.PlaceAnswer.TheVariants.{Refused as PlaceRefused}
 use Rattle.conversions.specs.Results.{refused_result}
 use Rattle.reader_numbers.specs.Numbers.{placed_result}
 
@@ -30,5 +30,5 @@ pub place_number_is : (stream k : ℕ) (z : ℤ) → subcarrier_from k ≡ z →
 place_number_is stream k z e l = ap (λ (y : ℤ). pos (256 * stream) +ℤ y) (place_sum_is k z e l)
 
 -- a refusal that is no 9 is its number negated
-pub refused_placed : (r : Refusal) → (number_of r ≡ 9 → ⊥) → refused_result r ≡ placed_result (PlaceRefused r)
+pub refused_placed : (r : Refusal) → (number_of r ≡ 9 → ⊥) → refused_result r ≡ placed_result (Err r)
 refused_placed r other = simp (ne_eqb (number_of r) 0 (λ e. omega (arith, e, (number_range r).0)), ne_eqb (number_of r) 9 other)

@@ -1,4 +1,6 @@
 -- The number of a place tells it: the terms of specs/Statements. Assumes nothing.
+use Rattle.std.specs.Prelude.{Err, None, Ok, Option, Result, Some}
+use Rattle.settings.specs.declared.settings.Refusal.{Refusal}
 use mathlib.Core.Path.{◌≡◌, ◌∙◌, refl, sym, ap, subst}
 use mathlib.Core.Bool.{Bool, true, false, cond}
 use mathlib.Core.List.{List}
@@ -11,22 +13,16 @@ use lib.IntN.{ℤ, pos}
 use lib.Ieee.{Float}
 use Rattle.settings.specs.declared.settings.Refusal.TheVariants.{Room, Closed}
 use Rattle.settings.specs.declared.settings.Settings.{Settings}
-use Rattle.settings.specs.declared.settings.Checked.{Checked}
-use Rattle.settings.specs.declared.settings.Checked.TheVariants.{Accepted, Refused}
 use Rattle.settings.specs.Settings.{number_of, check_of, plan_for, Right}
 use Rattle.settings.proofs.SettingsLaws.{right}
 use Rattle.subcarriers.specs.Subcarriers.{subcarrier_at, subcarrier_from, Inside}
 use Rattle.subcarriers.proofs.SubcarrierLaws.{index_of, index_small, index_back, inside_wide, place_used_for}
 use Rattle.frame.specs.Points.{floats_of}
-use Rattle.detector.specs.declared.search.Search.{Search}
-use Rattle.detector.specs.declared.search.Search.TheVariants.{AllGiven, At}
 use Rattle.detector.specs.Detected.{search_of}
 use Rattle.reader.proofs.HearLaws.{place_few, stream_few}
 use Rattle.reader_state.specs.declared.state.OpenSettings.{OpenSettings}
 use Rattle.reader_state.specs.declared.state.Reader.{Reader}
 use Rattle.reader_state.specs.State.{open_raw, closed_of}
-use Rattle.reader_place.specs.declared.place.PlaceAnswer.{PlaceAnswer}
-use Rattle.reader_place.specs.declared.place.PlaceAnswer.TheVariants.{Passed, Found, Refused as PlaceRefused}
 use Rattle.reader_place.specs.Place.{found_as, place_by, place_of}
 use Rattle.conversions.specs.Results.{refused_result}
 use Rattle.conversions.proofs.Minus.{pos_told, refused_not_pos}
@@ -44,7 +40,7 @@ has_parts : (i k : ℕ) → k < 128 → ((256 * i + (k + 64)) / 256 ≡ i) × ((
 has_parts i k l = (omega arith, omega arith)
 
 module _ (i : ℕ) (z : ℤ) (inside : Inside 40 z) where
-  placed_is : placed_result (Found i z) ≡ pos (number_of_place i z)
+  placed_is : placed_result (Ok (Some (i, z))) ≡ pos (number_of_place i z)
   placed_is = sym (place_number_is i (index_of z) z (index_back z inside) (index_small z inside))
 
   has_place : HasPlace (number_of_place i z) i z
@@ -66,22 +62,22 @@ one_number_one_place i j y z inside inside' e =
 -- ---- places that a call finds
 
 -- a place of the frame: one of at most four streams, and a subcarrier of the wider channel; and no refusal has a place's number
-abbrev pub PlaceInFrame : PlaceAnswer → Type 0
-PlaceInFrame Passed = Unit {0}
-PlaceInFrame (Found i z) = (i < 4) × Inside 40 z
-PlaceInFrame (PlaceRefused r) = number_of r ≡ 9 → ⊥
+abbrev pub PlaceInFrame : Result (Option (ℕ × ℤ)) Refusal → Type 0
+PlaceInFrame (Ok None) = Unit {0}
+PlaceInFrame (Ok (Some (i, z))) = (i < 4) × Inside 40 z
+PlaceInFrame (Err r) = number_of r ≡ 9 → ⊥
 
-found_in : (s : Settings) → Right s → (points : List Float) (n : ℕ) (x : Search) → x ≡ search_of (plan_for s) points s.format n
+found_in : (s : Settings) → Right s → (points : List Float) (n : ℕ) (x : Option (ℕ × ℕ)) → x ≡ search_of (plan_for s) points s.format n
     → PlaceInFrame (found_as x s)
-found_in s r points n AllGiven g = tt
-found_in s r points n (At i f) g = (
-  stream_few s r points n i f (At i f) refl g,
+found_in s r points n None g = tt
+found_in s r points n (Some (i, f)) g = (
+  stream_few s r points n i f (Some (i, f)) refl g,
   inside_wide s.width r.width (subcarrier_at s.width f)
-      (place_used_for s.width r.width f (place_few s points n i f (At i f) refl g)).inside,
+      (place_used_for s.width r.width f (place_few s points n i f (Some (i, f)) refl g)).inside,
 )
 
-tested_in : (closed small : Bool) (a : PlaceAnswer) → PlaceInFrame a
-    → PlaceInFrame (cond closed (PlaceRefused Closed) (cond small (PlaceRefused Room) a))
+tested_in : (closed small : Bool) (a : Result (Option (ℕ × ℤ)) Refusal) → PlaceInFrame a
+    → PlaceInFrame (cond closed (Err Closed) (cond small (Err Room) a))
 tested_in true small a h = λ e. omega (arith, e)
 tested_in false true a h = λ e. omega (arith, e)
 tested_in false false a h = h
@@ -89,11 +85,11 @@ tested_in false false a h = h
 pub place_in : (st : Reader) (points : List Float) → PlaceInFrame (place_of st points)
 place_in st points = go (check_of (open_raw st.settings)) refl
   where
-    go : (x : Checked) → check_of (open_raw st.settings) ≡ x → PlaceInFrame (place_by x st points)
-    go (Accepted s) e =
+    go : (x : Result Settings Refusal) → check_of (open_raw st.settings) ≡ x → PlaceInFrame (place_by x st points)
+    go (Ok s) e =
         tested_in (closed_of s st) (ltb (length points) (floats_of s)) _
         (found_in s (right (open_raw st.settings) s e) points st.symbol (search_of (plan_for s) points s.format st.symbol) refl)
-    go (Refused r) e = λ n. omega (arith, n)
+    go (Err r) e = λ n. omega (arith, n)
 
 -- ---- the call's own result
 
@@ -101,21 +97,21 @@ place_below : (i k : ℕ) → i < 4 → k < 128 → 256 * i + (k + 64) < 65535
 place_below i k few l = omega arith
 
 module _ (o : OpenSettings) (state : ℕ) (points : List Float) (number : ℕ) where
-  abbrev answer : PlaceAnswer
+  abbrev answer : Result (Option (ℕ × ℤ)) Refusal
   answer = place_of (reader_of o state) points
 
   Told : Type 0
-  Told = ((answer ≡ Passed) × (number ≡ 65535))
-      ⊎ ((i : ℕ) × ((z : ℤ) × ((answer ≡ Found i z) × ((i < 4) × ((number < 65535) × HasPlace number i z)))))
+  Told = ((answer ≡ Ok None) × (number ≡ 65535))
+      ⊎ ((i : ℕ) × ((z : ℤ) × ((answer ≡ Ok (Some (i, z))) × ((i < 4) × ((number < 65535) × HasPlace number i z)))))
 
-  by_answer : (a : PlaceAnswer) → answer ≡ a → PlaceInFrame a → placed_result a ≡ pos number → Told
+  by_answer : (a : Result (Option (ℕ × ℤ)) Refusal) → answer ≡ a → PlaceInFrame a → placed_result a ≡ pos number → Told
   unfolding Told
-  by_answer Passed is h e = inl (is, sym (pos_told 65535 number e))
-  by_answer (Found i z) is (few, inside) e =
+  by_answer (Ok None) is h e = inl (is, sym (pos_told 65535 number e))
+  by_answer (Ok (Some (i, z))) is (few, inside) e =
       let same : number_of_place i z ≡ number = pos_told _ _ (sym (placed_is i z inside) ∙ e) in
       let below = place_below i (index_of z) few (index_small z inside) in
       inr (i, (z, (is, (few, subst (λ (n : ℕ). (n < 65535) × HasPlace n i z) same (below, has_place i z inside)))))
-  by_answer (PlaceRefused r) is h e = absurd (refused_not_pos r number (refused_placed r h ∙ e))
+  by_answer (Err r) is h e = absurd (refused_not_pos r number (refused_placed r h ∙ e))
 
   by_state : (none : Bool) → cond none (refused_result Closed) (placed_result answer) ≡ pos number → Told
   by_state true e = absurd (refused_not_pos Closed number e)

@@ -1,5 +1,6 @@
 -- The reader's settings, states and answers as the numbers of the C calls (docs/C-API.md).
-use Rattle.std.specs.Prelude.{◌≡◌, cond, List, [], ◌∷◌, ℕ, ◌+◌, ◌*◌, ◌/◌, ◌%◌, eqb, leb, length, get_or, ℤ, pos, ◌+ℤ◌, Float}
+use Rattle.settings.specs.declared.settings.Refusal.{Refusal}
+use Rattle.std.specs.Prelude.{◌≡◌, cond, List, [], ◌∷◌, ℕ, ◌+◌, ◌*◌, ◌/◌, ◌%◌, eqb, leb, length, get_or, ℤ, pos, ◌+ℤ◌, Float, Err, None, Ok, Option, Result, Some}
 use Rattle.laws.specs.Integers.{minus}
 use Rattle.settings.specs.declared.settings.Refusal.TheVariants.{Closed}
 use Rattle.settings.specs.Settings.{number_of}
@@ -7,12 +8,8 @@ use Rattle.subcarriers.specs.Subcarriers.{Inside}
 use Rattle.sig_words.specs.Words.{one_if}
 use Rattle.reader_state.specs.declared.state.OpenSettings.{OpenSettings}
 use Rattle.reader_state.specs.declared.state.Reader.{Reader}
-use Rattle.reader_state.specs.declared.state.StartAnswer.{StartAnswer}
-use Rattle.reader_state.specs.declared.state.StartAnswer.TheVariants.{Ready, Refused as StartRefused}
 use Rattle.reader_state.specs.declared.state.Started.{Started}
 use Rattle.acceptance.specs.declared.accept.Stepped.{Stepped}
-use Rattle.reader_place.specs.declared.place.PlaceAnswer.{PlaceAnswer}
-use Rattle.reader_place.specs.declared.place.PlaceAnswer.TheVariants.{Passed, Found, Refused as PlaceRefused}
 use Rattle.reader.specs.Step.{step_of, step_into, step_number, step_seed}
 use Rattle.reader_place.specs.Place.{place_of, place_number, place_stream, place_subcarrier}
 use Rattle.conversions.specs.Results.{flag_on, refused_result}
@@ -48,9 +45,9 @@ reader_of o state = record {
 }
 
 -- the start: the state's number, or the refusal's negated
-abbrev pub started_result : StartAnswer → Reader → ℤ
-started_result Ready st = pos (state_number st)
-started_result (StartRefused r) st = refused_result r
+abbrev pub started_result : Result (Unit {0}) Refusal → Reader → ℤ
+started_result (Ok tt) st = pos (state_number st)
+started_result (Err r) st = refused_result r
 
 abbrev pub start_result : Started → ℤ
 start_result s = started_result s.answer s.state
@@ -72,7 +69,7 @@ abbrev pub step_result_into : OpenSettings → (state : ℕ) → List Float → 
 step_result_into o state points payload = cond (leb 562949953421312 state) payload (step_into (reader_of o state) points payload)
 
 -- the place: stream * 256 + (subcarrier + 128), 65,535 where every point passes, or the refusal's number negated
-abbrev pub placed_result : PlaceAnswer → ℤ
+abbrev pub placed_result : Result (Option (ℕ × ℤ)) Refusal → ℤ
 placed_result a =
     cond (eqb (place_number a) 0) (pos 65535)
     (cond (eqb (place_number a) 9) (pos (256 * place_stream a) +ℤ (place_subcarrier a +ℤ pos 128)) (minus (place_number a)))
@@ -81,7 +78,7 @@ abbrev pub place_result : OpenSettings → (state : ℕ) → List Float → ℤ
 place_result o state points = cond (leb 562949953421312 state) (refused_result Closed) (placed_result (place_of (reader_of o state) points))
 
 -- the place of an answer is a subcarrier of the wider channel, and what is refused has a number other than a place's
-abbrev pub PlaceRight : PlaceAnswer → Type 0
-PlaceRight Passed = Unit {0}
-PlaceRight (Found i z) = Inside 40 z
-PlaceRight (PlaceRefused r) = number_of r ≡ 9 → ⊥
+abbrev pub PlaceRight : Result (Option (ℕ × ℤ)) Refusal → Type 0
+PlaceRight (Ok None) = Unit {0}
+PlaceRight (Ok (Some (i, z))) = Inside 40 z
+PlaceRight (Err r) = number_of r ≡ 9 → ⊥

@@ -1,10 +1,9 @@
 -- What the reader's numbers tell (docs/C-API.md), field by field. The terms are in proofs/StateTold and proofs/PlaceTold.
-use Rattle.std.specs.Prelude.{◌≡◌, List, ◌⊎◌, ℕ, ◌/◌, ◌%◌, ◌<◌, get_or, ℤ, pos, ◌+ℤ◌, Float}
+use Rattle.std.specs.Prelude.{◌≡◌, List, ◌⊎◌, ℕ, ◌/◌, ◌%◌, ◌<◌, get_or, ℤ, pos, ◌+ℤ◌, Float, None, Ok, Some}
 use Rattle.subcarriers.specs.Subcarriers.{Inside}
 use Rattle.sig_words.specs.Words.{one_if}
 use Rattle.reader_state.specs.declared.state.OpenSettings.{OpenSettings}
 use Rattle.reader_state.specs.declared.state.Reader.{Reader}
-use Rattle.reader_place.specs.declared.place.PlaceAnswer.TheVariants.{Passed, Found}
 use Rattle.reader_place.specs.Place.{place_of}
 use Rattle.reader_numbers.specs.Numbers.{state_number, reader_of, placed_result, place_result}
 
@@ -35,15 +34,15 @@ HasPlace number stream subcarrier = (number / 256 ≡ stream) × (pos (number % 
 
 -- the result of every place is a number that has it
 abbrev pub PlaceTold : Type 0
-PlaceTold = (i : ℕ) (z : ℤ) → Inside 40 z → (number : ℕ) × ((placed_result (Found i z) ≡ pos number) × HasPlace number i z)
+PlaceTold = (i : ℕ) (z : ℤ) → Inside 40 z → (number : ℕ) × ((placed_result (Ok (Some (i, z))) ≡ pos number) × HasPlace number i z)
 
 -- so equal results have equal streams and subcarriers
 abbrev pub OneNumberOnePlace : Type 0
-OneNumberOnePlace = (i j : ℕ) (y z : ℤ) → Inside 40 y → Inside 40 z → placed_result (Found i y) ≡ placed_result (Found j z)
+OneNumberOnePlace = (i j : ℕ) (y z : ℤ) → Inside 40 y → Inside 40 z → placed_result (Ok (Some (i, y))) ≡ placed_result (Ok (Some (j, z)))
     → (i ≡ j) × (y ≡ z)
 
 -- of the call's own result: where it is not negative it is 65,535 and every point passes, or below that and it has the place that was found
 abbrev pub PlaceResultTold : Type 0
 PlaceResultTold = (o : OpenSettings) (state : ℕ) (points : List Float) (number : ℕ) → place_result o state points ≡ pos number
-    → ((place_of (reader_of o state) points ≡ Passed) × (number ≡ 65535))
-    ⊎ ((i : ℕ) × ((z : ℤ) × ((place_of (reader_of o state) points ≡ Found i z) × ((i < 4) × ((number < 65535) × HasPlace number i z)))))
+    → ((place_of (reader_of o state) points ≡ Ok None) × (number ≡ 65535))
+    ⊎ ((i : ℕ) × ((z : ℤ) × ((place_of (reader_of o state) points ≡ Ok (Some (i, z))) × ((i < 4) × ((number < 65535) × HasPlace number i z)))))

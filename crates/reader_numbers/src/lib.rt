@@ -6,11 +6,10 @@ ghost use Rattle.subcarriers.specs.Subcarriers.{Inside};
 ghost use Rattle.reader.specs.Step.{step_number, step_seed};
 ghost use Rattle.reader_numbers.specs.Numbers.{open_of, state_number, reader_of, stepped_number, placed_result, PlaceRight};
 
-use acceptance::accept::{StepAnswer, Stepped};
+use acceptance::accept::{StepRefusal, Stepped};
 use conversions::{byte_number, refused};
-use reader_place::place::PlaceAnswer;
 use reader_state::state::{OpenSettings, Reader};
-use settings::settings::number;
+use settings::settings::{Refusal, number};
 use sig_words::words::one;
 use subcarriers::layout::index;
 
@@ -66,25 +65,22 @@ pub fn reader_of(settings: OpenSettings, state: u64) -> Reader
     }
 }
 
-fn answer_number(answer: StepAnswer) -> u64
+fn answer_number(answer: Result<Option<u8>, StepRefusal>) -> u64
     ensures { (result ≡ step_number answer) × (result < 16) }
 {
     match answer {
-        StepAnswer::First(_) => 0,
-        StepAnswer::Next => 0,
-        StepAnswer::BadPoint(_, _) => 9,
-        StepAnswer::Refused(r) => number(r),
+        Ok(_) => 0,
+        Err(StepRefusal::BadPoint(_, _)) => 9,
+        Err(StepRefusal::Refused(r)) => number(r),
     }
 }
 
-fn answer_seed(answer: StepAnswer) -> u64
+fn answer_seed(answer: Result<Option<u8>, StepRefusal>) -> u64
     ensures { (result ≡ step_seed answer) × (result < 256) }
 {
     match answer {
-        StepAnswer::First(seed) => byte_number(seed),
-        StepAnswer::Next => 0,
-        StepAnswer::BadPoint(_, _) => 0,
-        StepAnswer::Refused(_) => 0,
+        Ok(Some(seed)) => u64::from(seed),
+        Ok(None) | Err(_) => 0,
     }
 }
 
@@ -107,13 +103,13 @@ fn found_number(stream: u8, subcarrier: i32) -> u64
 }
 
 // The place of a point, 65,535 where there is none, or the refusal's number negated.
-pub fn place_number(answer: PlaceAnswer) -> i64
+pub fn place_number(answer: Result<Option<(u8, i32)>, Refusal>) -> i64
     requires { PlaceRight answer }
     ensures { result ≡ placed_result answer }
 {
     match answer {
-        PlaceAnswer::Passed => 65535,
-        PlaceAnswer::Found(i, z) => found_number(i, z) as i64,
-        PlaceAnswer::Refused(r) => refused(r),
+        Ok(None) => 65535,
+        Ok(Some((i, z))) => found_number(i, z) as i64,
+        Err(r) => refused(r),
     }
 }

@@ -3,36 +3,24 @@ ghost use Rattle.std.specs.Prelude.{◌≡◌};
 ghost use Rattle.reader_place.specs.Place.{place_of};
 
 use chain::plan::MOST_CODED;
-use detector::search::{Search, symbol_bits};
+use detector::search::symbol_bits;
 use frame::points::floats_of;
 use reader_state::state::{Reader, is_closed, raw_of};
-use settings::settings::{Checked, Refusal, check, plan_of};
+use settings::settings::{Refusal, check, plan_of};
 use subcarriers::layout::subcarrier_of;
 
-// Every point passes, or the first that does not: its stream and its subcarrier's own number.
-#[derive(Clone, Copy)]
-pub enum PlaceAnswer {
-    Passed,
-    Found(u8, i32),
-    Refused(Refusal),
-}
-
-// The public place call.
-pub fn place(reader: Reader, points: &[f32]) -> PlaceAnswer
+// The public place call: the first point that does not pass, by its stream and its subcarrier's own number; none where every point passes.
+pub fn place(reader: Reader, points: &[f32]) -> Result<Option<(u8, i32)>, Refusal>
     ensures { result ≡ place_of reader points.now }
 {
-    let open = reader.settings;
-    let checked = check(raw_of(open));
-    let Checked::Accepted(s) = checked else {
-        return PlaceAnswer::Refused(Refusal::Closed);
+    let Ok(s) = check(raw_of(reader.settings)) else {
+        return Err(Refusal::Closed);
     };
-    let closed = is_closed(reader, s);
-    if closed {
-        return PlaceAnswer::Refused(Refusal::Closed);
+    if is_closed(reader, s) {
+        return Err(Refusal::Closed);
     }
-    let small = points.len() < floats_of(s);
-    if small {
-        return PlaceAnswer::Refused(Refusal::Room);
+    if points.len() < floats_of(s) {
+        return Err(Refusal::Room);
     }
     let mut bits = [0u8; MOST_CODED];
     let found = symbol_bits(
@@ -43,7 +31,7 @@ pub fn place(reader: Reader, points: &[f32]) -> PlaceAnswer
         reader.symbol as usize,
     );
     match found {
-        Search::AllGiven => PlaceAnswer::Passed,
-        Search::At(i, f) => PlaceAnswer::Found(i as u8, subcarrier_of(s.width as usize, f)),
+        None => Ok(None),
+        Some((i, f)) => Ok(Some((i as u8, subcarrier_of(s.width as usize, f)))),
     }
 }

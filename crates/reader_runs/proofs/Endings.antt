@@ -1,5 +1,8 @@
 -- An ended state stays: every step from it is 12, and changes nothing. A step keeps its settings, and room beyond the payload's length does not count.
 -- Assumes nothing.
+use Rattle.std.specs.Prelude.{Err, Ok, Result}
+use Rattle.settings.specs.declared.settings.Refusal.{Refusal}
+use Rattle.acceptance.specs.declared.accept.StepRefusal.TheVariants.{Refused as StepRefused}
 use mathlib.Core.Path.{◌≡◌, ◌∙◌, refl, sym, ap}
 use mathlib.Core.Bool.{Bool, true, cond, ◌||◌}
 use mathlib.Core.List.{List}
@@ -14,15 +17,12 @@ use lib.Ieee.{Float}
 use Rattle.laws.proofs.Refusing.{true_not_false}
 use Rattle.settings.specs.declared.settings.Refusal.TheVariants.{Room, Closed}
 use Rattle.settings.specs.declared.settings.Settings.{Settings}
-use Rattle.settings.specs.declared.settings.Checked.{Checked}
-use Rattle.settings.specs.declared.settings.Checked.TheVariants.{Accepted, Refused}
 use Rattle.settings.specs.Settings.{check_of, plan_for}
 use Rattle.settings.proofs.SettingsLaws.{passed}
 use Rattle.frame.specs.Points.{floats_of}
 use Rattle.detector.specs.Detected.{search_of}
 use Rattle.reader_state.specs.declared.state.OpenSettings.{OpenSettings}
 use Rattle.reader_state.specs.declared.state.Reader.{Reader}
-use Rattle.acceptance.specs.declared.accept.StepAnswer.TheVariants.{Refused as StepRefused}
 use Rattle.acceptance.specs.declared.accept.Stepped.{Stepped}
 use Rattle.reader_state.specs.State.{open_raw, start_by, closed_of}
 use Rattle.acceptance.specs.Accepted.{answered}
@@ -35,7 +35,7 @@ use Rattle.reader_runs.specs.Run.{state_before, answer_to}
 -- ---- ended states
 
 -- a step from an ended state is 12, and gives it back
-pub ended_step : (st : Reader) → st.ended ≡ true → (points : List Float) (bytes : ℕ) → step_of st points bytes ≡ answered (StepRefused Closed) st
+pub ended_step : (st : Reader) → st.ended ≡ true → (points : List Float) (bytes : ℕ) → step_of st points bytes ≡ answered (Err (StepRefused Closed)) st
 ended_step st ended points bytes =
     ⊎_elim (λ (o : InReach st). absurd (true_not_false (sym ended ∙ o.in_range.going))) (λ e. e) (reach st points bytes)
 
@@ -69,9 +69,9 @@ module _ (o : OpenSettings) (S : ℕ → List Float) (bytes : ℕ → ℕ) (n : 
 step_kept : (st : Reader) (points : List Float) (bytes : ℕ) → (step_of st points bytes).state.settings ≡ st.settings
 step_kept st points bytes = step_by_lem (λ r. r.state.settings ≡ st.settings) st refl refl (λ i z. refl) refl refl points bytes (λ o. refl)
 
-pub start_kept : (x : Checked) (o : OpenSettings) → (start_by x o).state.settings ≡ o
-start_kept (Accepted s) o = refl
-start_kept (Refused r) o = refl
+pub start_kept : (x : Result Settings Refusal) (o : OpenSettings) → (start_by x o).state.settings ≡ o
+start_kept (Ok s) o = refl
+start_kept (Err r) o = refl
 
 pub run_kept : (o : OpenSettings) (S : ℕ → List Float) (bytes : ℕ → ℕ) (n : ℕ) → (state_before o S bytes n).settings ≡ o
 unfolding state_before
@@ -84,13 +84,13 @@ step_room : (st : Reader) (points : List Float) (bytes bytes' : ℕ) → st.sett
     → step_of st points bytes ≡ step_of st points bytes'
 step_room st points bytes bytes' h h' = go (check_of (open_raw st.settings)) refl
   where
-    go : (x : Checked) → check_of (open_raw st.settings) ≡ x → step_by x st points bytes ≡ step_by x st points bytes'
-    go (Accepted s) e =
+    go : (x : Result Settings Refusal) → check_of (open_raw st.settings) ≡ x → step_by x st points bytes ≡ step_by x st points bytes'
+    go (Ok s) e =
         let long : st.settings.length ≡ s.length = ap (λ (t : Settings). t.length) (passed (open_raw st.settings) s e).meant in
-        ap (λ (b : Bool). cond (closed_of s st) (answered (StepRefused Closed) st)
-        (cond (ltb (length points) (floats_of s) || b) (answered (StepRefused Room) st) (by_search (search_of (plan_for s) points s.format st.symbol) s st points)))
+        ap (λ (b : Bool). cond (closed_of s st) (answered (Err (StepRefused Closed)) st)
+        (cond (ltb (length points) (floats_of s) || b) (answered (Err (StepRefused Room)) st) (by_search (search_of (plan_for s) points s.format st.symbol) s st points)))
         (le-ltb bytes s.length (omega (arith, long, h)) ∙ sym (le-ltb bytes' s.length (omega (arith, long, h'))))
-    go (Refused r) e = refl
+    go (Err r) e = refl
 
 -- every slice with room for the payload leads to the same states and answers
 module _ (o : OpenSettings) (S : ℕ → List Float) (bytes bytes' : ℕ → ℕ) (room : (n : ℕ) → o.length ≤ bytes n) (room' : (n : ℕ) → o.length ≤ bytes' n) where

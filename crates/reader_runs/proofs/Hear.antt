@@ -1,5 +1,6 @@
 -- From the state that n symbols of a frame lead to, the frame's symbol n is accepted: the state is that of one symbol more, and the bytes now complete are
 -- the payload's. Assumes settings in range, payload bits that are bits and a seed of 1 to 127.
+use Rattle.std.specs.Prelude.{None, Ok, Some}
 use mathlib.Core.Path.{◌≡◌, ◌∙◌, sym, ap, ap₂}
 use mathlib.Core.Bool.{true, cond}
 use mathlib.Core.List.{List, [], ◌∷◌, ◌++◌}
@@ -37,7 +38,6 @@ use Rattle.assembler.proofs.KnownBits.{known_old, known_new}
 use Rattle.reader_state.specs.declared.state.OpenSettings.{OpenSettings}
 use Rattle.reader_state.specs.declared.state.Reader.{Reader}
 use Rattle.reader_state.specs.State.{history_of, first_bit}
-use Rattle.acceptance.specs.declared.accept.StepAnswer.TheVariants.{First, Next}
 use Rattle.acceptance.specs.Accepted.{answered, scrambler_for, plain_of, frame_right, bits_before, bits_after, known_of, part_left, bytes_left, bytes_into, moved_with, accepted_with, by_frame}
 use Rattle.acceptance.proofs.AcceptedLaws.{scrambler_first, scrambler_later}
 use Rattle.reader.specs.Step.{heard_input, histories_after, by_code}
@@ -226,22 +226,22 @@ module _ (s : Settings) (right : Right s) (o : OpenSettings) (v : ℕ → ℕ) (
         (after_is s n)
 
     -- the answer has the seed at symbol 0
-    answer_is : accepted_with st (scrambler_for st X) ≡ cond (eqb n 0) (First seed) Next
+    answer_is : accepted_with st (scrambler_for st X) ≡ cond (eqb n 0) (Ok (Some seed)) (Ok None)
     answer_is =
-        ap₂ (λ (m k : ℕ). cond (eqb m 0) (First k) Next) (symbol_is s o v seed n) scrambler_is
+        ap₂ (λ (m k : ℕ). cond (eqb m 0) (Ok (Some k)) (Ok None)) (symbol_is s o v seed n) scrambler_is
         ∙ elim (ℕ_discrete n 0) [
-          | yes first ↦ simp (eq-eqb n 0 first) (ap First (ap (state_at seed) (first_zero s n first) ∙ state_zero seed))
+          | yes first ↦ simp (eq-eqb n 0 first) (ap (λ (k : ℕ). Ok (Some k)) (ap (state_at seed) (first_zero s n first) ∙ state_zero seed))
           | no later ↦ simp (ne_eqb n 0 later)
         ]
 
-    by_frame_lem : by_frame s st X (histories_after s st X) ≡ answered (cond (eqb n 0) (First seed) Next) (state_after o s v seed (n + 1))
+    by_frame_lem : by_frame s st X (histories_after s st X) ≡ answered (cond (eqb n 0) (Ok (Some seed)) (Ok None)) (state_after o s v seed (n + 1))
     by_frame_lem =
         simp frame_right_lem (ap₂ answered answer_is (
         ap (λ (m : ℕ). moved_with s st (histories_after s st X) (scrambler_for st X) (part_left s m st.part plain)) (symbol_is s o v seed n) ∙ moved_is))
 
   -- the step from the label bits on: accepted, with the seed at symbol 0, and the state of the frame one symbol on
   pub sent_code : (n : ℕ) (lab : ℕ → ℕ → ℕ) → LabelsSent s v seed n lab
-      → by_code s (state_after o s v seed n) lab ≡ answered (cond (eqb n 0) (First seed) Next) (state_after o s v seed (n + 1))
+      → by_code s (state_after o s v seed n) lab ≡ answered (cond (eqb n 0) (Ok (Some seed)) (Ok None)) (state_after o s v seed (n + 1))
   sent_code n lab sent =
       simp (sent_decodes n lab sent) (by_frame_lem n (heard_input s (state_after o s v seed n) lab) (heard_is n lab sent))
 

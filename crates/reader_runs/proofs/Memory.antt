@@ -1,4 +1,5 @@
 -- What the payload slices hold that a run's steps are lent: the frame's bytes that are complete, and all else as it was. Assumes nothing.
+use Rattle.std.specs.Prelude.{Ok}
 use mathlib.Core.Path.{◌≡◌, ◌∙◌, sym, ap, subst}
 use mathlib.Core.List.{List, ◌++◌}
 use Prim.Native.Nat.{ℕ, zero, suc, ◌+◌, ◌-◌, ◌*◌, ◌/◌, ◌<◌, ◌≤◌}
@@ -12,7 +13,6 @@ use Rattle.laws.specs.Firsts.{firsts}
 use Rattle.laws.proofs.Filling.{fill_none, fill_join, fill_from, fill_end}
 use Rattle.laws.proofs.Firsts.{into_fill}
 use Rattle.settings.specs.declared.settings.Settings.{Settings}
-use Rattle.settings.specs.declared.settings.Checked.TheVariants.{Accepted}
 use Rattle.settings.specs.Settings.{check_of, plan_for, Right}
 use Rattle.symbols.specs.Symbols.{symbols_of}
 use Rattle.symbols.proofs.CountLaws.{symbols_least}
@@ -50,7 +50,7 @@ module _ (s : Settings) where
 part_ends : (a b : ℕ) → a ≤ b → a + (b - a) ≡ b
 part_ends a b l = omega arith
 
-module _ (o : OpenSettings) (ready : check_of (open_raw o) ≡ Accepted (settings_for o)) (S : ℕ → List Float) (bytes : ℕ → ℕ)
+module _ (o : OpenSettings) (ready : check_of (open_raw o) ≡ Ok (settings_for o)) (S : ℕ → List Float) (bytes : ℕ → ℕ)
     (m : ℕ) (few : m ≤ symbols_of (settings_for o)) (rooms : Rooms (settings_for o) S bytes m) (f : SentBy (settings_for o) S m) where
   abbrev s : Settings
   s = settings_for o
@@ -80,7 +80,7 @@ module _ (o : OpenSettings) (ready : check_of (open_raw o) ≡ Accepted (setting
       (fill_from 0 (λ k. byte_of f.v (bytes_before s n + k)) {a = bytes_before s n} {b = 0 + bytes_before s n} (omega arith) q))
 
 -- after the last symbol it holds the whole payload
-pub memory_whole : (o : OpenSettings) (ready : check_of (open_raw o) ≡ Accepted (settings_for o)) (S : ℕ → List Float) (bytes : ℕ → ℕ)
+pub memory_whole : (o : OpenSettings) (ready : check_of (open_raw o) ≡ Ok (settings_for o)) (S : ℕ → List Float) (bytes : ℕ → ℕ)
     → Rooms (settings_for o) S bytes (symbols_of (settings_for o)) → (f : SentBy (settings_for o) S (symbols_of (settings_for o)))
     → (slice : List ℕ) → (settings_for o).length ≤ length slice
     → Filled 0 0 (byte_of f.v) (settings_for o).length slice (memory_before o S bytes (symbols_of (settings_for o)) slice)

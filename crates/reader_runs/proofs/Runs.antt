@@ -1,5 +1,7 @@
 -- A run of the reader over a frame's first m symbols: it accepts them exactly where some frame sends them, and its states, answers and bytes are that
 -- frame's. Assumes nothing.
+use Rattle.std.specs.Prelude.{None, Ok, Result, Some}
+use Rattle.settings.specs.declared.settings.Refusal.{Refusal}
 use mathlib.Core.Path.{◌≡◌, ◌∙◌, refl, sym, ap, ap₂, subst}
 use mathlib.Core.Bool.{Bool, true, false, cond}
 use mathlib.Core.List.{List, [], ◌∷◌, ◌++◌}
@@ -19,8 +21,6 @@ use Rattle.chain.specs.Decoder.{history_before}
 use Rattle.chain.proofs.DecodeLaws.{history_start}
 use Rattle.chain.proofs.LabelLaws.{halves_local}
 use Rattle.settings.specs.declared.settings.Settings.{Settings}
-use Rattle.settings.specs.declared.settings.Checked.{Checked}
-use Rattle.settings.specs.declared.settings.Checked.TheVariants.{Accepted}
 use Rattle.settings.specs.Settings.{check_of, plan_for, Right}
 use Rattle.settings.proofs.SettingsLaws.{plan_fits}
 use Rattle.symbols.specs.Symbols.{symbols_of}
@@ -29,7 +29,6 @@ use Rattle.modulator.proofs.SymbolLaws.{symbol_ext}
 use Rattle.assembler.specs.Assembled.{bits_number, byte_of}
 use Rattle.reader_state.specs.declared.state.OpenSettings.{OpenSettings}
 use Rattle.reader_state.specs.declared.state.Reader.{Reader}
-use Rattle.acceptance.specs.declared.accept.StepAnswer.TheVariants.{First, Next}
 use Rattle.acceptance.specs.declared.accept.Stepped.{Stepped}
 use Rattle.reader_state.specs.State.{open_raw, start_by, start_of, first_bit}
 use Rattle.acceptance.specs.Accepted.{answered, bits_before}
@@ -70,7 +69,7 @@ state_eq : (o : OpenSettings) (n : ℕ) {e e' : Bool} {h h' : List ℕ} {k part 
     (record { settings = o; symbol = n; ended = e'; histories = h'; scrambler = k; part = part' })
 state_eq o n {e} {e'} {h} {h'} {k} {part} {part'} a b c = λ i. record { settings = o; symbol = n; ended = a i; histories = b i; scrambler = k; part = c i }
 
-module _ (o : OpenSettings) (ready : check_of (open_raw o) ≡ Accepted (settings_for o)) where
+module _ (o : OpenSettings) (ready : check_of (open_raw o) ≡ Ok (settings_for o)) where
   abbrev s : Settings
   s = settings_for o
 
@@ -78,7 +77,7 @@ module _ (o : OpenSettings) (ready : check_of (open_raw o) ≡ Accepted (setting
   pub start_is : (v : ℕ → ℕ) (seed : ℕ) → (start_of o).state ≡ state_after o (settings_for o) v seed 0
   unfolding state_after
   start_is v seed =
-      ap (λ (c : Checked). (start_by c o).state) ready
+      ap (λ (c : Result Settings Refusal). (start_by c o).state) ready
       ∙ state_eq o 0 (sym (ne_eqb 0 (symbols_of s) (λ e. omega (arith, e, symbols_some s (sound o ready)))))
       (ap₂ (λ (a b : ℕ). a ∷ (b ∷ [])) (sym (history_start (plan_for s) (sent_input s v seed) 0)) (second (ltb 1 (plan_for s).encoders)))
       (sym (packed_none v _ (bits_before s 0 % 8) (omega (arith, zero-mul (plan_for s).dbps))))
@@ -91,7 +90,7 @@ module _ (o : OpenSettings) (ready : check_of (open_raw o) ≡ Accepted (setting
     module _ (m : ℕ) (few : m ≤ symbols_of (settings_for o)) (rooms : Rooms (settings_for o) S bytes m) (f : SentBy (settings_for o) S m) where
       -- a step of the run from the frame's own state
       step_of_lem : (n : ℕ) → n < m → step_of (state_after o s f.v f.seed n) (S n) (bytes n)
-          ≡ answered (cond (eqb n 0) (First f.seed) Next) (state_after o s f.v f.seed (n + 1))
+          ≡ answered (cond (eqb n 0) (Ok (Some f.seed)) (Ok None)) (state_after o s f.v f.seed (n + 1))
       step_of_lem n l =
           step_takes o ready f.v f.seed f.bits f.seed_some f.seed_small n (omega (arith, l, few)) (S n) (rooms n l).0 (f.sent n l) (bytes n) (rooms n l).1
 
@@ -105,7 +104,7 @@ module _ (o : OpenSettings) (ready : check_of (open_raw o) ≡ Accepted (setting
           ∙ ap (state_after o s f.v f.seed) (add-one n)
 
       -- every symbol is accepted, the first with the seed
-      pub run_takes : (n : ℕ) → n < m → answer_to o S bytes n ≡ cond (eqb n 0) (First f.seed) Next
+      pub run_takes : (n : ℕ) → n < m → answer_to o S bytes n ≡ cond (eqb n 0) (Ok (Some f.seed)) (Ok None)
       run_takes n l =
           ap (λ (t : Reader). (step_of t (S n) (bytes n)).answer) (run_state n (omega arith))
           ∙ ap (λ (r : Stepped). r.answer) (step_of_lem n l)

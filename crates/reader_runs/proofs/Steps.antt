@@ -1,5 +1,8 @@
 -- The step law: from the state that n symbols of a frame lead to, the step accepts a symbol exactly where some frame that agrees with it before symbol n
 -- sends it, and goes on to that frame's next state. Assumes nothing.
+use Rattle.std.specs.Prelude.{Err, None, Ok, Option, Result, Some}
+use Rattle.settings.specs.declared.settings.Refusal.{Refusal}
+use Rattle.acceptance.specs.declared.accept.StepRefusal.TheVariants.{Refused as StepRefused}
 use mathlib.Core.Path.{◌≡◌, ◌∙◌, refl, sym, ap, subst}
 use mathlib.Core.Bool.{Bool, true, false, cond, not}
 use mathlib.Core.List.{List, ◌++◌}
@@ -17,20 +20,15 @@ use Rattle.chain.proofs.DecodeLaws.{history_lt}
 use Rattle.chain.proofs.ScramblerLaws.{state_some}
 use Rattle.settings.specs.declared.settings.Refusal.TheVariants.{Room}
 use Rattle.settings.specs.declared.settings.Settings.{Settings}
-use Rattle.settings.specs.declared.settings.Checked.{Checked}
-use Rattle.settings.specs.declared.settings.Checked.TheVariants.{Accepted}
 use Rattle.settings.specs.Settings.{check_of, plan_for, Right}
 use Rattle.settings.proofs.SettingsLaws.{right, plan_fits}
 use Rattle.symbols.specs.Symbols.{symbols_of}
 use Rattle.frame.specs.Points.{floats_of}
-use Rattle.detector.specs.declared.search.Search.{Search}
-use Rattle.detector.specs.declared.search.Search.TheVariants.{AllGiven, At}
 use Rattle.detector.specs.Detected.{search_of, shown_bit}
 use Rattle.assembler.specs.Assembled.{byte_of}
 use Rattle.assembler.proofs.Packing.{packed_small}
 use Rattle.reader_state.specs.declared.state.OpenSettings.{OpenSettings}
 use Rattle.reader_state.specs.declared.state.Reader.{Reader}
-use Rattle.acceptance.specs.declared.accept.StepAnswer.TheVariants.{First, Next, Refused as StepRefused}
 use Rattle.acceptance.specs.declared.accept.Stepped.{Stepped}
 use Rattle.reader_state.specs.State.{InRange, open_raw, first_bit}
 use Rattle.acceptance.specs.Accepted.{answered, frame_right, bits_before, step_into_by}
@@ -45,16 +43,16 @@ use Rattle.reader_runs.proofs.Hear.{sent_code, sent_bytes}
 use Rattle.reader_runs.proofs.Finding.{agree_state, found}
 
 -- the three tests of a step that accepts
-pub record AllPassed (x : Search) (c f : Bool) : Type 0 where
-  pub points : x ≡ AllGiven
+pub record AllPassed (x : Option (ℕ × ℕ)) (c f : Bool) : Type 0 where
+  pub points : x ≡ None
   pub code : c ≡ true
   pub frame : f ≡ true
 
-all_passed : (x : Search) (c f : Bool) → ◌≡◌ {A = ℕ} (cond (is_at x) 9 (cond (not c) 10 (cond (not f) 11 0))) 0 → AllPassed x c f
-all_passed (At i k) c f e = absurd (omega (arith, e))
-all_passed AllGiven true true e = record { points = refl; code = refl; frame = refl }
-all_passed AllGiven true false e = absurd (omega (arith, e))
-all_passed AllGiven false f e = absurd (omega (arith, e))
+all_passed : (x : Option (ℕ × ℕ)) (c f : Bool) → ◌≡◌ {A = ℕ} (cond (is_at x) 9 (cond (not c) 10 (cond (not f) 11 0))) 0 → AllPassed x c f
+all_passed (Some (i, k)) c f e = absurd (omega (arith, e))
+all_passed None true true e = record { points = refl; code = refl; frame = refl }
+all_passed None true false e = absurd (omega (arith, e))
+all_passed None false f e = absurd (omega (arith, e))
 
 -- and what the number says of a step that does not
 refused_by : (a c f : Bool) (n : ℕ) → n ≡ cond a 9 (cond (not c) 10 (cond (not f) 11 0)) → (n ≡ 0 → ⊥) → (n ≡ 9) ⊎ ((n ≡ 10) ⊎ (n ≡ 11))
@@ -64,7 +62,7 @@ refused_by false true false n e some = inr (inr e)
 refused_by false true true n e some = absurd (some e)
 
 -- an accepted symbol's bytes are written
-accepted_into : (first : Bool) (seed : ℕ) (written payload : List ℕ) → step_into_by (cond first (First seed) Next) written payload ≡ written
+accepted_into : (first : Bool) (seed : ℕ) (written payload : List ℕ) → step_into_by (cond first (Ok (Some seed)) (Ok None)) written payload ≡ written
 accepted_into true seed written payload = refl
 accepted_into false seed written payload = refl
 
@@ -75,7 +73,7 @@ cond_small false k h = omega arith
 room_both : (s : Settings) (floats bytes : ℕ) → floats_of s ≤ floats → s.length ≤ bytes → no_room s floats bytes ≡ false
 room_both s floats bytes h l = simp (le-ltb floats (floats_of s) h, le-ltb bytes s.length l)
 
-module _ (o : OpenSettings) (ready : check_of (open_raw o) ≡ Accepted (settings_for o)) where
+module _ (o : OpenSettings) (ready : check_of (open_raw o) ≡ Ok (settings_for o)) where
   pub sound : Right (settings_for o)
   sound = right (open_raw o) (settings_for o) ready
 
@@ -117,15 +115,15 @@ module _ (o : OpenSettings) (ready : check_of (open_raw o) ≡ Accepted (setting
       unfolding state_after
       step_is bytes whole =
           step_open st points bytes in_reach_after
-          ∙ ap (λ (b : Bool). cond b (answered (StepRefused Room) st) (by_search (search_of p points s.format n) s st points))
+          ∙ ap (λ (b : Bool). cond b (answered (Err (StepRefused Room)) st) (by_search (search_of p points s.format n) s st points))
           (room_both s (length points) bytes room whole)
 
       -- the frame's own symbol
       pub step_takes : FloatsSent (settings_for o) v seed n points → (bytes : ℕ) → (settings_for o).length ≤ bytes
-          → step_of (state_after o (settings_for o) v seed n) points bytes ≡ answered (cond (eqb n 0) (First seed) Next) (state_after o (settings_for o) v seed (n + 1))
+          → step_of (state_after o (settings_for o) v seed n) points bytes ≡ answered (cond (eqb n 0) (Ok (Some seed)) (Ok None)) (state_after o (settings_for o) v seed (n + 1))
       step_takes sent bytes whole =
           step_is bytes whole
-          ∙ ap (λ (y : Search). by_search y s st points) (floats_given p fits x points s.format n sent)
+          ∙ ap (λ (y : Option (ℕ × ℕ)). by_search y s st points) (floats_given p fits x points s.format n sent)
           ∙ sent_code s sound o v seed bits some small n (shown_bit p points) (floats_show p fits x points s.format n sent)
 
       -- and its complete bytes
@@ -136,7 +134,7 @@ module _ (o : OpenSettings) (ready : check_of (open_raw o) ≡ Accepted (setting
       step_writes sent payload whole =
           ap (λ (r : Stepped). step_into_by r.answer (written_by (check_of (open_raw o)) st points payload) payload) (step_takes sent (length payload) whole)
           ∙ accepted_into (eqb n 0) seed _ payload
-          ∙ ap (λ (c : Checked). written_by c st points payload) ready
+          ∙ ap (λ (c : Result Settings Refusal). written_by c st points payload) ready
           ∙ sent_bytes s sound o v seed bits some small n (shown_bit p points) (floats_show p fits x points s.format n sent) payload
 
       -- an accepted symbol is that of a frame which agrees before it
@@ -159,8 +157,8 @@ module _ (o : OpenSettings) (ready : check_of (open_raw o) ≡ Accepted (setting
   pub step_agrees : (v : ℕ → ℕ) (seed : ℕ) (w : ℕ → ℕ) (seed' : ℕ) → ((k : ℕ) → w k < 2) → 0 < seed' → seed' < 128 → (n : ℕ) → n < symbols_of (settings_for o)
       → Agree (settings_for o) n v seed w seed' → (points : List Float) → floats_of (settings_for o) ≤ length points → FloatsSent (settings_for o) w seed' n points
       → (bytes : ℕ) → (settings_for o).length ≤ bytes
-      → step_of (state_after o (settings_for o) v seed n) points bytes ≡ answered (cond (eqb n 0) (First seed') Next) (state_after o (settings_for o) w seed' (n + 1))
+      → step_of (state_after o (settings_for o) v seed n) points bytes ≡ answered (cond (eqb n 0) (Ok (Some seed')) (Ok None)) (state_after o (settings_for o) w seed' (n + 1))
   step_agrees v seed w seed' wb ws wm n below agree points room sent bytes whole =
-      subst (λ (t : Reader). step_of t points bytes ≡ answered (cond (eqb n 0) (First seed') Next) (state_after o s w seed' (n + 1)))
+      subst (λ (t : Reader). step_of t points bytes ≡ answered (cond (eqb n 0) (Ok (Some seed')) (Ok None)) (state_after o s w seed' (n + 1)))
       (agree_state s sound o n v seed w seed' agree)
       (step_takes w seed' wb ws wm n below points room sent bytes whole)

@@ -1,4 +1,5 @@
 -- Symbols tell their frame: two frames with the same first m symbols have one seed, and the same bytes as far as they are complete. Assumes nothing.
+use Rattle.std.specs.Prelude.{Ok}
 use mathlib.Core.Path.{◌≡◌, ◌∙◌, sym, ap}
 use mathlib.Core.List.{List}
 use Prim.Native.Nat.{ℕ, ◌<◌, ◌≤◌}
@@ -10,7 +11,6 @@ use Rattle.laws.proofs.Filling.{fill_at}
 use Rattle.laws.proofs.Firsts.{length_firsts, get_d_firsts}
 use Rattle.chain.specs.Labels.{half_label}
 use Rattle.settings.specs.declared.settings.Settings.{Settings}
-use Rattle.settings.specs.declared.settings.Checked.TheVariants.{Accepted}
 use Rattle.settings.specs.Settings.{check_of, plan_for}
 use Rattle.symbols.specs.Symbols.{symbols_of}
 use Rattle.modulator.specs.Symbol.{symbol_float}
@@ -23,7 +23,7 @@ use Rattle.reader_runs.specs.Sent.{settings_for, sent_input, SentBy, Rooms}
 use Rattle.reader_runs.proofs.Runs.{run_takes}
 use Rattle.reader_runs.proofs.Memory.{bytes_before, memory_filled}
 
-module _ (o : OpenSettings) (ready : check_of (open_raw o) ≡ Accepted (settings_for o)) (S : ℕ → List Float) (m : ℕ) (some : 0 < m)
+module _ (o : OpenSettings) (ready : check_of (open_raw o) ≡ Ok (settings_for o)) (S : ℕ → List Float) (m : ℕ) (some : 0 < m)
     (few : m ≤ symbols_of (settings_for o)) (f h : SentBy (settings_for o) S m) where
   abbrev s : Settings
   s = settings_for o

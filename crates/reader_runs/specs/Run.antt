@@ -1,9 +1,9 @@
 -- A run of the strict reader (demand 2: "begun by its start and handed back each state as it was returned"). Symbol n's points are S n; its step is lent a
 -- payload slice of `bytes n` bytes.
-use Rattle.std.specs.Prelude.{List, ℕ, zero, suc, Float}
+use Rattle.acceptance.specs.declared.accept.StepRefusal.{StepRefusal}
+use Rattle.std.specs.Prelude.{List, ℕ, zero, suc, Float, Option, Result}
 use Rattle.reader_state.specs.declared.state.OpenSettings.{OpenSettings}
 use Rattle.reader_state.specs.declared.state.Reader.{Reader}
-use Rattle.acceptance.specs.declared.accept.StepAnswer.{StepAnswer}
 use Rattle.reader_state.specs.State.{start_of}
 use Rattle.reader.specs.Step.{step_of, step_into}
 
@@ -13,7 +13,7 @@ state_before o S bytes zero = (start_of o).state
 state_before o S bytes (suc n) = (step_of (state_before o S bytes n) (S n) (bytes n)).state
 
 -- the answer to symbol n
-abbrev pub answer_to : (o : OpenSettings) (S : ℕ → List Float) (bytes : ℕ → ℕ) (n : ℕ) → StepAnswer
+abbrev pub answer_to : (o : OpenSettings) (S : ℕ → List Float) (bytes : ℕ → ℕ) (n : ℕ) → Result (Option ℕ) StepRefusal
 answer_to o S bytes n = (step_of (state_before o S bytes n) (S n) (bytes n)).answer
 
 -- symbol n's payload slice after its step

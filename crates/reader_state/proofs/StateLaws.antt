@@ -1,4 +1,5 @@
 -- The reader's state: its numbers are small, and it is closed exactly where it is not in range. Assumes nothing.
+use Rattle.std.specs.Prelude.{Ok}
 use mathlib.Core.Path.{◌≡◌, ◌∙◌, refl, sym, ap}
 use mathlib.Core.Bool.{Bool, true, false, ◌||◌}
 use mathlib.Core.List.{List, [], ◌∷◌}
@@ -14,7 +15,6 @@ use Rattle.laws.proofs.Reflect.{or_false}
 use Rattle.laws.proofs.Search.{above}
 use Rattle.chain.specs.declared.plan.Plan.{Plan}
 use Rattle.settings.specs.declared.settings.Settings.{Settings}
-use Rattle.settings.specs.declared.settings.Checked.TheVariants.{Accepted}
 use Rattle.settings.specs.Settings.{check_of, plan_for, Right}
 use Rattle.symbols.specs.Symbols.{symbols_of}
 use Rattle.settings.proofs.SettingsLaws.{right, plan_fits}
@@ -130,5 +130,5 @@ module _ (s : Settings) (p : Plan) (plan : p ≡ plan_for s) where
       ap (λ (k : ℕ). leb k part) (f ∙ ap (λ (k : ℕ). 2 ^ (k % 8)) (e ∙ ap (λ (q : Plan). payload_before s.length (n * q.dbps)) plan))
 
 -- settings that are accepted are in their ranges
-pub open_right : (st : Reader) (s : Settings) → Accepted s ≡ check_of (open_raw st.settings) → Right s
+pub open_right : (st : Reader) (s : Settings) → Ok s ≡ check_of (open_raw st.settings) → Right s
 open_right st s e = right (open_raw st.settings) s (sym e)

@@ -1,16 +1,13 @@
 -- The strict reader's state, its ranges and its start (document 01, 'Numbered refusals': "A state in range has ..").
-use Rattle.std.specs.Prelude.{◌≡◌, Bool, true, false, not, ◌||◌, ◌&&◌, List, [], ◌∷◌, ℕ, ◌*◌, ◌%◌, ◌^◌, ◌<◌, eqb, ltb, leb, get_or}
+use Rattle.settings.specs.declared.settings.Refusal.{Refusal}
+use Rattle.std.specs.Prelude.{◌≡◌, Bool, true, false, not, ◌||◌, ◌&&◌, List, [], ◌∷◌, ℕ, ◌*◌, ◌%◌, ◌^◌, ◌<◌, eqb, ltb, leb, get_or, Err, Ok, Result}
 use Rattle.settings.specs.declared.settings.RawSettings.{RawSettings}
 use Rattle.settings.specs.declared.settings.Settings.{Settings}
-use Rattle.settings.specs.declared.settings.Checked.{Checked}
-use Rattle.settings.specs.declared.settings.Checked.TheVariants.{Accepted, Refused}
 use Rattle.settings.specs.Settings.{number_of, check_of, plan_for}
 use Rattle.symbols.specs.Symbols.{symbols_of}
 use Rattle.assembler.specs.Assembled.{payload_before}
 use Rattle.reader_state.specs.declared.state.OpenSettings.{OpenSettings}
 use Rattle.reader_state.specs.declared.state.Reader.{Reader}
-use Rattle.reader_state.specs.declared.state.StartAnswer.{StartAnswer}
-use Rattle.reader_state.specs.declared.state.StartAnswer.TheVariants.{Ready, Refused as StartRefused}
 use Rattle.reader_state.specs.declared.state.Started.{Started}
 
 -- the raw settings that settings without a seed and a seed make
@@ -36,17 +33,17 @@ abbrev pub blank : OpenSettings → Bool → Reader
 blank o ended = record { settings = o; symbol = 0; ended = ended; histories = 0 ∷ 0 ∷ []; scrambler = 0; part = 0 }
 
 -- the start: refusals 1 to 4, and beside a refusal a closed state
-abbrev pub start_by : Checked → OpenSettings → Started
-start_by (Accepted s) o = record { answer = Ready; state = blank o false }
-start_by (Refused r) o = record { answer = StartRefused r; state = blank o true }
+abbrev pub start_by : Result Settings Refusal → OpenSettings → Started
+start_by (Ok s) o = record { answer = Ok tt; state = blank o false }
+start_by (Err r) o = record { answer = Err r; state = blank o true }
 
 abbrev pub start_of : OpenSettings → Started
 start_of o = start_by (check_of (open_raw o)) o
 
 -- document 01's number of each case, 0 where the reader is begun
-abbrev pub start_number : StartAnswer → ℕ
-start_number Ready = 0
-start_number (StartRefused r) = number_of r
+abbrev pub start_number : Result (Unit {0}) Refusal → ℕ
+start_number (Ok tt) = 0
+start_number (Err r) = number_of r
 
 -- the history of encoder j
 abbrev pub history_of : Reader → (j : ℕ) → ℕ

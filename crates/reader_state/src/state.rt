@@ -1,10 +1,10 @@
 // The reader's state, its start, and whether a state is closed.
 ghost use Rattle.std.specs.Prelude.{◌≡◌, ◌%◌, ◌^◌, ◌<◌};
 ghost use Rattle.settings.specs.Settings.{Right};
-ghost use Rattle.reader_state.specs.State.{open_raw, start_of, bad_histories, bad_scrambler, bad_part, closed_of, ended_of};
+ghost use Rattle.reader_state.specs.State.{open_raw, blank, start_of, bad_histories, bad_scrambler, bad_part, closed_of, ended_of};
 
 use assembler::bytes::payload_before;
-use settings::settings::{Checked, RawSettings, Refusal, Settings, check, plan_of, refusal_of};
+use settings::settings::{RawSettings, Refusal, Settings, check, plan_of};
 use symbols::count::symbols_of;
 
 // Settings without a seed, as wide as any caller has them.
@@ -36,15 +36,10 @@ pub struct Reader {
     pub part: u8,
 }
 
-#[derive(Clone, Copy)]
-pub enum StartAnswer {
-    Ready,
-    Refused(Refusal),
-}
-
+// Whether the settings are accepted, and a state in either case: a closed one where they are refused.
 #[derive(Clone, Copy)]
 pub struct Started {
-    pub answer: StartAnswer,
+    pub answer: Result<(), Refusal>,
     pub state: Reader,
 }
 
@@ -64,33 +59,32 @@ pub fn raw_of(o: OpenSettings) -> RawSettings
     }
 }
 
+// A state before symbol 0.
+fn blank(o: OpenSettings, ended: bool) -> Reader
+    ensures { result ≡ blank o ended }
+{
+    Reader {
+        settings: o,
+        symbol: 0,
+        ended,
+        histories: [0, 0],
+        scrambler: 0,
+        part: 0,
+    }
+}
+
 // The public start: a state before symbol 0, or a refusal and a closed state.
 pub fn start(o: OpenSettings) -> Started
     ensures { result ≡ start_of o }
 {
-    let checked = check(raw_of(o));
-    let Checked::Accepted(_) = checked else {
-        return Started {
-            answer: StartAnswer::Refused(refusal_of(checked)),
-            state: Reader {
-                settings: o,
-                symbol: 0,
-                ended: true,
-                histories: [0, 0],
-                scrambler: 0,
-                part: 0,
-            },
-        };
-    };
-    Started {
-        answer: StartAnswer::Ready,
-        state: Reader {
-            settings: o,
-            symbol: 0,
-            ended: false,
-            histories: [0, 0],
-            scrambler: 0,
-            part: 0,
+    match check(raw_of(o)) {
+        Ok(_) => Started {
+            answer: Ok(()),
+            state: blank(o, false),
+        },
+        Err(r) => Started {
+            answer: Err(r),
+            state: blank(o, true),
         },
     }
 }

@@ -1,4 +1,5 @@
 -- Accepted settings are in range, and the numbers that follow from them. Assumes nothing.
+use Rattle.std.specs.Prelude.{Err, Ok}
 use mathlib.Core.Path.{◌≡◌, refl, sym, subst}
 use mathlib.Core.Bool.{Bool, true, false, cond, not, ◌||◌}
 use Prim.Native.Nat.{ℕ, ◌+◌, ◌≤◌}
@@ -16,7 +17,6 @@ use Rattle.settings.specs.declared.settings.RawSettings.{RawSettings}
 use Rattle.settings.specs.declared.settings.Refusal.{Refusal}
 use Rattle.settings.specs.declared.settings.Refusal.TheVariants.{Width, Mcs, Format, Length, Seed, Source, Place, Room, Point, Code, Frame, Closed, SigCrc, SigForm}
 use Rattle.settings.specs.declared.settings.Settings.{Settings}
-use Rattle.settings.specs.declared.settings.Checked.TheVariants.{Accepted, Refused}
 
 -- what holds of the two widths, and of every other, holds of all
 pub by_width : {P : Type 0} (w : ℕ) → (w ≡ 20 → P) → (w ≡ 40 → P) → (eqb w 20 ≡ false → eqb w 40 ≡ false → P) → P
@@ -37,7 +37,7 @@ by_range n most none above between =
 
 -- the answer where every test passes
 pub accepted_is : (a : RawSettings) → bad_width a ≡ false → bad_mcs a ≡ false → bad_format a ≡ false → bad_length a ≡ false → bad_seed a ≡ false
-    → Accepted (settings_of a) ≡ check_of a
+    → Ok (settings_of a) ≡ check_of a
 accepted_is a w m f l s = simp (w, m, f, l, s)
 
 in_widths : (a b : Bool) (w : ℕ) → eqb w 20 ≡ a → eqb w 40 ≡ b → not (a || b) ≡ false → T (among widths w)
@@ -54,14 +54,14 @@ pub record Passed (a : RawSettings) (s : Settings) : Type 0 where
   pub seed : bad_seed a ≡ false
   pub meant : settings_of a ≡ s
 
-pub passed : (a : RawSettings) (s : Settings) → check_of a ≡ Accepted s → Passed a s
+pub passed : (a : RawSettings) (s : Settings) → check_of a ≡ Ok s → Passed a s
 passed a s p = go (bad_width a) (bad_mcs a) (bad_format a) (bad_length a) (bad_seed a) refl refl refl refl refl p
   where
-    no : (r : Refusal) → Refused r ≡ Accepted s → ⊥
+    no : (r : Refusal) → Err r ≡ Ok s → ⊥
     no r e = let z : ◌≡◌ {A = ℕ} 0 1 = cc in omega arith
 
     go : (w m f l d : Bool) → bad_width a ≡ w → bad_mcs a ≡ m → bad_format a ≡ f → bad_length a ≡ l → bad_seed a ≡ d
-        → cond w (Refused Width) (cond m (Refused Mcs) (cond f (Refused Format) (cond l (Refused Length) (cond d (Refused Seed) (Accepted (settings_of a)))))) ≡ Accepted s → Passed a s
+        → cond w (Err Width) (cond m (Err Mcs) (cond f (Err Format) (cond l (Err Length) (cond d (Err Seed) (Ok (settings_of a)))))) ≡ Ok s → Passed a s
     go true m f l d ew em ef el ed q = absurd (no Width q)
     go false true f l d ew em ef el ed q = absurd (no Mcs q)
     go false false true l d ew em ef el ed q = absurd (no Format q)
@@ -72,7 +72,7 @@ passed a s p = go (bad_width a) (bad_mcs a) (bad_format a) (bad_length a) (bad_s
         record { width = ew; mcs = em; format = ef; length = el; seed = ed; meant = is }
 
 -- accepted settings are in range
-pub right : (a : RawSettings) (s : Settings) → check_of a ≡ Accepted s → Right s
+pub right : (a : RawSettings) (s : Settings) → check_of a ≡ Ok s → Right s
 right a s p =
     let t = passed a s p in
     subst Right t.meant

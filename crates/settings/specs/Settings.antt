@@ -1,5 +1,5 @@
 -- Settings and refusals 1 to 5 (document 01, 'Settings' and 'Numbered refusals').
-use Rattle.std.specs.Prelude.{◌≡◌, Bool, cond, not, ◌||◌, ◌⊎◌, ℕ, ◌<◌, T, ltb, eqb}
+use Rattle.std.specs.Prelude.{◌≡◌, Bool, cond, not, ◌||◌, ◌⊎◌, ℕ, ◌<◌, T, ltb, eqb, Err, Ok, Result}
 use Rattle.laws.specs.Test.{among}
 use Rattle.chain.specs.Plan.{widths, streams_of, plan_of}
 use Rattle.chain.specs.declared.plan.Plan.{Plan}
@@ -7,8 +7,6 @@ use Rattle.settings.specs.declared.settings.Refusal.{Refusal}
 use Rattle.settings.specs.declared.settings.Refusal.TheVariants.{Width, Mcs, Format, Length, Seed, Source, Place, Room, Point, Code, Frame, Closed, SigCrc, SigForm}
 use Rattle.settings.specs.declared.settings.RawSettings.{RawSettings}
 use Rattle.settings.specs.declared.settings.Settings.{Settings}
-use Rattle.settings.specs.declared.settings.Checked.{Checked}
-use Rattle.settings.specs.declared.settings.Checked.TheVariants.{Accepted, Refused}
 
 -- the table's numbers
 abbrev pub number_of : Refusal → ℕ
@@ -79,22 +77,18 @@ settings_of a = record {
 }
 
 -- the settings' answer: the first refusal that applies, or the settings
-abbrev pub check_of : RawSettings → Checked
+abbrev pub check_of : RawSettings → Result Settings Refusal
 check_of a =
-    cond (bad_width a) (Refused Width)
-    (cond (bad_mcs a) (Refused Mcs)
-    (cond (bad_format a) (Refused Format)
-    (cond (bad_length a) (Refused Length)
-    (cond (bad_seed a) (Refused Seed) (Accepted (settings_of a))))))
+    cond (bad_width a) (Err Width)
+    (cond (bad_mcs a) (Err Mcs)
+    (cond (bad_format a) (Err Format)
+    (cond (bad_length a) (Err Length)
+    (cond (bad_seed a) (Err Seed) (Ok (settings_of a))))))
 
 -- document 01's number of each case of the answer, 0 where nothing is refused
-abbrev pub checked_number : Checked → ℕ
-checked_number (Accepted s) = 0
-checked_number (Refused r) = number_of r
-
-abbrev pub IsRefused : Checked → Type 0
-IsRefused (Accepted s) = ⊥
-IsRefused (Refused r) = Unit {0}
+abbrev pub checked_number : Result Settings Refusal → ℕ
+checked_number (Ok s) = 0
+checked_number (Err r) = number_of r
 
 -- accepted settings are in these ranges
 pub record Right (s : Settings) : Type 0 where

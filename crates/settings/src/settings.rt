@@ -2,7 +2,7 @@
 ghost use Rattle.std.specs.Prelude.{◌≡◌, ltb};
 ghost use Rattle.chain.specs.Plan.{streams_of};
 ghost use Rattle.settings.specs.Settings.{bad_width, bad_mcs, bad_format, bad_length, bad_seed};
-ghost use Rattle.settings.specs.Settings.{number_of, check_of, IsRefused, encoders_of, plan_for, Right};
+ghost use Rattle.settings.specs.Settings.{number_of, check_of, encoders_of, plan_for, Right};
 
 use chain::plan;
 use chain::plan::Plan;
@@ -53,12 +53,6 @@ pub struct Settings {
     pub not_sounding: bool,
     pub aggregation: bool,
     pub short_guard: bool,
-}
-
-#[derive(Clone, Copy)]
-pub enum Checked {
-    Accepted(Settings),
-    Refused(Refusal),
 }
 
 // Document 01's number of a refusal.
@@ -115,25 +109,25 @@ fn bad_seed(raw: RawSettings) -> bool
 }
 
 // The settings, or the first refusal of 1 to 5 that applies.
-pub fn check(raw: RawSettings) -> Checked
+pub fn check(raw: RawSettings) -> Result<Settings, Refusal>
     ensures { result ≡ check_of raw }
 {
     if bad_width(raw) {
-        return Checked::Refused(Refusal::Width);
+        return Err(Refusal::Width);
     }
     if bad_mcs(raw) {
-        return Checked::Refused(Refusal::Mcs);
+        return Err(Refusal::Mcs);
     }
     if bad_format(raw) {
-        return Checked::Refused(Refusal::Format);
+        return Err(Refusal::Format);
     }
     if bad_length(raw) {
-        return Checked::Refused(Refusal::Length);
+        return Err(Refusal::Length);
     }
     if bad_seed(raw) {
-        return Checked::Refused(Refusal::Seed);
+        return Err(Refusal::Seed);
     }
-    Checked::Accepted(Settings {
+    Ok(Settings {
         width: raw.width,
         mcs: raw.mcs,
         format: raw.format,
@@ -144,18 +138,6 @@ pub fn check(raw: RawSettings) -> Checked
         aggregation: raw.aggregation,
         short_guard: raw.short_guard,
     })
-}
-
-// The refusal in a refused answer: for the `else` of `let Checked::Accepted(..) = checked else`.
-pub fn refusal_of(checked: Checked) -> Refusal
-    requires { IsRefused checked }
-    ensures { checked ≡ Checked.Refused result }
-{
-    match checked {
-        Checked::Refused(r) => r,
-        // Ruled out by the `requires`.
-        Checked::Accepted(_) => Refusal::Width,
-    }
 }
 
 // Whether an MCS has one stream or two.

@@ -1,4 +1,5 @@
 -- HT-SIG by its bits and as numbers, and what follows for the calls. Assumes nothing.
+use Rattle.std.specs.Prelude.{Err, Ok, Result}
 use mathlib.Core.Path.{◌≡◌, refl, sym, ap, ◌∙◌, subst}
 use mathlib.Core.List.{List, [], ◌∷◌, ◌++◌}
 use mathlib.Core.Bool.{Bool, true, false, cond, not, ◌||◌}
@@ -19,12 +20,7 @@ use Rattle.settings.specs.declared.settings.Refusal.{Refusal}
 use Rattle.settings.specs.declared.settings.Refusal.TheVariants.{Source, Room, SigCrc, SigForm}
 use Rattle.settings.specs.declared.settings.RawSettings.{RawSettings}
 use Rattle.settings.specs.declared.settings.Settings.{Settings}
-use Rattle.settings.specs.declared.settings.Checked.{Checked}
-use Rattle.settings.specs.declared.settings.Checked.TheVariants.{Accepted, Refused}
 use Rattle.sig_words.specs.declared.words.SigFields.{SigFields}
-use Rattle.signal.specs.declared.ht_sig.Written.TheVariants.{Done, Refused as WriteRefused}
-use Rattle.signal.specs.declared.ht_sig.SigRead.{SigRead}
-use Rattle.signal.specs.declared.ht_sig.SigRead.TheVariants.{Fields, Refused as ReadRefused}
 use Rattle.settings.specs.Settings.{check_of, settings_of, Right}
 use Rattle.signal.specs.HtSig.{low, value, packed, ones, shifted_over, crc_bits, head_bits, sig_bits, sig_bytes, fields_of, written_of, written_into, written_number, bits_in, field, SourceRow, CrcRow, crc_wrong, FormRow, form_wrong, fields_in, read_of, read_number}
 use Rattle.sig_crc.specs.Crc.{crc_run, crc_field}
@@ -112,25 +108,25 @@ sig_fits s r = record { mcs = omega (arith, r.mcs); length = r.length_most }
 -- ---- the write
 
 -- a refusal of the settings is given on, and nothing is written
-pub refused_write : (x : Checked) (r : Refusal) (l : List ℕ) → x ≡ Refused r → (WriteRefused r ≡ written_of x (length l)) × (l ≡ written_into x l)
-refused_write x r l q = (ap (λ (y : Checked). written_of y (length l)) (sym q), ap (λ (y : Checked). written_into y l) (sym q))
+pub refused_write : (x : Result Settings Refusal) (r : Refusal) (l : List ℕ) → x ≡ Err r → (Err r ≡ written_of x (length l)) × (l ≡ written_into x l)
+refused_write x r l q = (ap (λ (y : Result Settings Refusal). written_of y (length l)) (sym q), ap (λ (y : Result Settings Refusal). written_into y l) (sym q))
 
 -- where fewer than six bytes are lent, refusal 8, and nothing is written
-pub no_room_lem : (x : Checked) (s : Settings) (l : List ℕ) → x ≡ Accepted s → length l < 6 → (WriteRefused Room ≡ written_of x (length l)) × (l ≡ written_into x l)
+pub no_room_lem : (x : Result Settings Refusal) (s : Settings) (l : List ℕ) → x ≡ Ok s → length l < 6 → (Err Room ≡ written_of x (length l)) × (l ≡ written_into x l)
 no_room_lem x s l q h =
     let t : ltb (length l) 6 ≡ true = lt-ltb (length l) 6 h in (
-      ap (λ (b : Bool). cond b (WriteRefused Room) Done) (sym t) ∙ ap (λ (y : Checked). written_of y (length l)) (sym q),
-      ap (λ (b : Bool). cond b l (sig_bytes (fields_of s) ++ drop 6 l)) (sym t) ∙ ap (λ (y : Checked). written_into y l) (sym q),
+      ap (λ (b : Bool). cond b (Err Room) (Ok tt)) (sym t) ∙ ap (λ (y : Result Settings Refusal). written_of y (length l)) (sym q),
+      ap (λ (b : Bool). cond b l (sig_bytes (fields_of s) ++ drop 6 l)) (sym t) ∙ ap (λ (y : Result Settings Refusal). written_into y l) (sym q),
     )
 
 -- otherwise the six bytes are written
-pub wrote : (x : Checked) (s : Settings) (w : ℕ) (l m : List ℕ) → x ≡ Accepted s → 6 ≤ length l → SigFits (fields_of s) → w ≡ sig_word (fields_of s)
-    → m ≡ six_of w ++ drop 6 l → (Done ≡ written_of x (length l)) × (m ≡ written_into x l)
+pub wrote : (x : Result Settings Refusal) (s : Settings) (w : ℕ) (l m : List ℕ) → x ≡ Ok s → 6 ≤ length l → SigFits (fields_of s) → w ≡ sig_word (fields_of s)
+    → m ≡ six_of w ++ drop 6 l → ((Ok tt) ≡ written_of x (length l)) × (m ≡ written_into x l)
 wrote x s w l m q h fit p d =
     let t : ltb (length l) 6 ≡ false = le-ltb (length l) 6 h in
     let b : six_of w ≡ sig_bytes (fields_of s) = ap six_of p ∙ sym (bytes_are (fields_of s) fit) in (
-      ap (λ (b : Bool). cond b (WriteRefused Room) Done) (sym t) ∙ ap (λ (y : Checked). written_of y (length l)) (sym q),
-      d ∙ ap (λ (y : List ℕ). y ++ drop 6 l) b ∙ ap (λ (b : Bool). cond b l (sig_bytes (fields_of s) ++ drop 6 l)) (sym t) ∙ ap (λ (y : Checked). written_into y l) (sym q),
+      ap (λ (b : Bool). cond b (Err Room) (Ok tt)) (sym t) ∙ ap (λ (y : Result Settings Refusal). written_of y (length l)) (sym q),
+      d ∙ ap (λ (y : List ℕ). y ++ drop 6 l) b ∙ ap (λ (b : Bool). cond b l (sig_bytes (fields_of s) ++ drop 6 l)) (sym t) ∙ ap (λ (y : Result Settings Refusal). written_into y l) (sym q),
     )
 
 -- ---- the read, by bits and by the number
@@ -173,8 +169,8 @@ fields_in_word_lem w =
     (ap (λ (x : ℕ). eqb x 1) (field_of 48 31 1 w (omega arith)))
 
 -- the read by its tests' values
-abbrev pub by_tests : Bool → Bool → Bool → SigFields → SigRead
-by_tests a b c g = cond a (ReadRefused Source) (cond b (ReadRefused SigCrc) (cond c (ReadRefused SigForm) (Fields g)))
+abbrev pub by_tests : Bool → Bool → Bool → SigFields → Result SigFields Refusal
+by_tests a b c g = cond a (Err Source) (cond b (Err SigCrc) (cond c (Err SigForm) (Ok g)))
 
 -- the read of six bytes, on their number
 pub read_word : (l : List ℕ) → length l ≡ 6 → AreBytes l → read_of l ≡ by_tests false (word_crc_wrong (word_in l)) (word_form_wrong (word_in l)) (fields_in_word (word_in l))
@@ -187,7 +183,7 @@ read_word l h b =
     ∙ ap (λ (g : SigFields). by_tests false (word_crc_wrong (word_in l)) (word_form_wrong (word_in l)) g) (fields_in_word_lem (word_in l))
 
 -- a slice that is not six bytes
-pub read_short : (l : List ℕ) → SourceRow l → read_of l ≡ ReadRefused Source
+pub read_short : (l : List ℕ) → SourceRow l → read_of l ≡ Err Source
 read_short l n = ap (λ (t : Bool). by_tests (not t) (crc_wrong (bits_in l)) (form_wrong (bits_in l)) (fields_in (bits_in l))) (ne_eqb (length l) 6 n)
 
 -- the read of six bytes, for the code: by what its parts say of the number
@@ -300,7 +296,7 @@ module _ (s : Settings) (r : Right s) where
       same_fields (width_back _ s.width r.width got.width) got.mcs got.length (bool_back s.smoothing _ got.smoothing) (bool_back s.not_sounding _ got.sounding)
       (bool_back s.aggregation _ got.aggregation) (bool_back s.short_guard _ got.guard)
 
-  read_back : read_of (sig_bytes meant) ≡ Fields meant
+  read_back : read_of (sig_bytes meant) ≡ Ok meant
   read_back =
       let w = sig_word meant in
       let e : word_in (six_of w) ≡ w = word_again w got.small in
@@ -308,7 +304,7 @@ module _ (s : Settings) (r : Right s) where
       ∙ sym (read_by (six_of w) w false false meant refl (six_are_bytes w) (sym e) crc_back form_back (sym fields_back))
 
 -- reading what was written gives the settings' fields back
-pub read_of_written : (s : Settings) → Right s → read_of (sig_bytes (fields_of s)) ≡ Fields (fields_of s)
+pub read_of_written : (s : Settings) → Right s → read_of (sig_bytes (fields_of s)) ≡ Ok (fields_of s)
 read_of_written s r = read_back s r
 
 -- ---- the read gives fields for nothing else
@@ -405,14 +401,14 @@ record Given (l : List ℕ) (g : SigFields) : Type 0 where
   passes : Passed (word_in l)
   fields : g ≡ fields_in_word (word_in l)
 
-given : (l : List ℕ) (g : SigFields) → AreBytes l → read_of l ≡ Fields g → Given l g
+given : (l : List ℕ) (g : SigFields) → AreBytes l → read_of l ≡ Ok g → Given l g
 given l g k e = by_length (eqb (length l) 6) refl
   where
-    by_form : (c : Bool) → length l ≡ 6 → word_crc_wrong (word_in l) ≡ false → word_form_wrong (word_in l) ≡ c → by_tests false false c (fields_in_word (word_in l)) ≡ Fields g → Given l g
+    by_form : (c : Bool) → length l ≡ 6 → word_crc_wrong (word_in l) ≡ false → word_form_wrong (word_in l) ≡ c → by_tests false false c (fields_in_word (word_in l)) ≡ Ok g → Given l g
     by_form true h p q f = absurd (let z : ◌≡◌ {A = ℕ} 0 1 = cc in omega arith)
     by_form false h p q f = let z : fields_in_word (word_in l) ≡ g = cc in record { six = h; passes = passed (word_in l) p q; fields = sym z }
 
-    by_crc : (b : Bool) → length l ≡ 6 → word_crc_wrong (word_in l) ≡ b → by_tests false b (word_form_wrong (word_in l)) (fields_in_word (word_in l)) ≡ Fields g → Given l g
+    by_crc : (b : Bool) → length l ≡ 6 → word_crc_wrong (word_in l) ≡ b → by_tests false b (word_form_wrong (word_in l)) (fields_in_word (word_in l)) ≡ Ok g → Given l g
     by_crc true h p f = absurd (let z : ◌≡◌ {A = ℕ} 0 1 = cc in omega arith)
     by_crc false h p f = by_form (word_form_wrong (word_in l)) h p refl f
 
@@ -441,7 +437,7 @@ either_width false = refl
 length_right : (n : ℕ) → n < 65536 → (n ≡ 0 → ⊥) → (eqb n 0 || ltb 65535 n) ≡ false
 length_right n h k = simp (ne_eqb n 0 k, le-ltb 65535 n (omega arith))
 
-asked_accepted : (w : ℕ) → Passed w → check_of (asked (fields_in_word w)) ≡ Accepted (settings_of (asked (fields_in_word w)))
+asked_accepted : (w : ℕ) → Passed w → check_of (asked (fields_in_word w)) ≡ Ok (settings_of (asked (fields_in_word w)))
 unfolding fields_in_word
 asked_accepted w p =
     sym (accepted_is (asked (fields_in_word w)) (either_width (eqb (w / 128 % 2) 1)) (le-ltb 31 (w % 128) p.mcs) refl (length_right (w / 256 % 65536) (omega arith) p.some) refl)
@@ -468,7 +464,7 @@ read_exactly = λ l k. (
       (
         settings_of (asked p.0),
         (
-          subst (λ (g : SigFields). check_of (asked g) ≡ Accepted (settings_of (asked g))) (sym v.fields) (asked_accepted (word_in l) v.passes),
+          subst (λ (g : SigFields). check_of (asked g) ≡ Ok (settings_of (asked g))) (sym v.fields) (asked_accepted (word_in l) v.passes),
           bytes_again l p.0 k v,
         ),
       ),
@@ -553,17 +549,17 @@ unfolding sig_bytes
 six_length g = refl
 
 -- a refused write changes nothing
-pub refused_writes_nothing : (c : Checked) (l : List ℕ) → (written_number (written_of c (length l)) ≡ 0 → ⊥) → written_into c l ≡ l
-refused_writes_nothing (Accepted s) l n = go (ltb (length l) 6) n
+pub refused_writes_nothing : (c : Result Settings Refusal) (l : List ℕ) → (written_number (written_of c (length l)) ≡ 0 → ⊥) → written_into c l ≡ l
+refused_writes_nothing (Ok s) l n = go (ltb (length l) 6) n
   where
-    go : (t : Bool) → (written_number (cond t (WriteRefused Room) Done) ≡ 0 → ⊥) → cond t l (sig_bytes (fields_of s) ++ drop 6 l) ≡ l
+    go : (t : Bool) → (written_number (cond t (Err Room) (Ok tt)) ≡ 0 → ⊥) → cond t l (sig_bytes (fields_of s) ++ drop 6 l) ≡ l
     go true n = refl
     go false n = absurd (n refl)
-refused_writes_nothing (Refused r) l n = refl
+refused_writes_nothing (Err r) l n = refl
 
 -- from the seventh byte on the lent bytes stay, and there are as many
-pub rest_stays : (c : Checked) (l : List ℕ) → (drop 6 (written_into c l) ≡ drop 6 l) × (length (written_into c l) ≡ length l)
-rest_stays (Accepted s) l = go (ltb (length l) 6) refl
+pub rest_stays : (c : Result Settings Refusal) (l : List ℕ) → (drop 6 (written_into c l) ≡ drop 6 l) × (length (written_into c l) ≡ length l)
+rest_stays (Ok s) l = go (ltb (length l) 6) refl
   where
     go : (t : Bool) → ltb (length l) 6 ≡ t
         → (drop 6 (cond t l (sig_bytes (fields_of s) ++ drop 6 l)) ≡ drop 6 l) × (length (cond t l (sig_bytes (fields_of s) ++ drop 6 l)) ≡ length l)
@@ -574,24 +570,24 @@ rest_stays (Accepted s) l = go (ltb (length l) 6) refl
           drop_at (sig_bytes (fields_of s)) (drop 6 l) 6 n,
           length-append (sig_bytes (fields_of s)) (drop 6 l) ∙ ap (λ (k : ℕ). k + length (drop 6 l)) n ∙ simp length-drop (omega arith),
         )
-rest_stays (Refused r) l = (refl, refl)
+rest_stays (Err r) l = (refl, refl)
 
 -- where the settings are accepted and there is room, the first six bytes are the field's
-pub six_written : (s : Settings) (l : List ℕ) → 6 ≤ length l → take 6 (written_into (Accepted s) l) ≡ sig_bytes (fields_of s)
+pub six_written : (s : Settings) (l : List ℕ) → 6 ≤ length l → take 6 (written_into (Ok s) l) ≡ sig_bytes (fields_of s)
 six_written s l h = simp (le-ltb (length l) 6) (take_at (sig_bytes (fields_of s)) (drop 6 l) 6 (six_length (fields_of s)))
 
 abbrev blank : List ℕ
 blank = 0 ∷ 0 ∷ 0 ∷ 0 ∷ 0 ∷ 0 ∷ []
 
-blank_refused : read_of blank ≡ ReadRefused SigCrc
+blank_refused : read_of blank ≡ Err SigCrc
 unfolding crc_wrong
 blank_refused = refl
 
 -- a program that writes nothing does not meet the write's promise: six zeros never stay
-pub blank_changes : (s : Settings) → Right s → written_into (Accepted s) blank ≡ blank → ⊥
+pub blank_changes : (s : Settings) → Right s → written_into (Ok s) blank ≡ blank → ⊥
 blank_changes s r e =
     let w : blank ≡ sig_bytes (fields_of s) = sym (ap (take 6) e) ∙ six_written s blank (omega arith) in
-    let f : ReadRefused SigCrc ≡ Fields (fields_of s) = sym blank_refused ∙ ap read_of w ∙ read_of_written s r in
+    let f : Err SigCrc ≡ Ok (fields_of s) = sym blank_refused ∙ ap read_of w ∙ read_of_written s r in
     let z : ◌≡◌ {A = ℕ} 0 1 = cc in
     omega arith
 
@@ -604,8 +600,8 @@ room_rule room = record { number = 8; Applies = SignalRoomRow room; test = ltb r
 pub write_refusals : WriteRefusals
 write_refusals a room =
     given_exactly (written_number (written_of (check_of a) room)) (settingsRules a ++ (room_rule room ∷ [])) tt
-    (after_settings a (λ (c : Checked). written_number (written_of c room)) (room_rule room ∷ []) (λ r. refl) (go (ltb room 6)))
+    (after_settings a (λ (c : Result Settings Refusal). written_number (written_of c room)) (room_rule room ∷ []) (λ r. refl) (go (ltb room 6)))
   where
-    go : (t : Bool) → written_number (cond t (WriteRefused Room) Done) ≡ cond t 8 0
+    go : (t : Bool) → written_number (cond t (Err Room) (Ok tt)) ≡ cond t 8 0
     go true = refl
     go false = refl

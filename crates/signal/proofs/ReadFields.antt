@@ -1,4 +1,5 @@
 -- What the read gives is in range, whatever it was lent. Assumes nothing.
+use Rattle.std.specs.Prelude.{Err, Ok}
 use mathlib.Core.Path.{◌≡◌, refl, subst}
 use mathlib.Core.Bool.{Bool, true, false, cond, not}
 use mathlib.Core.List.{List, [], ◌∷◌}
@@ -12,7 +13,6 @@ use lib.ListN.{length, take, drop}
 use Rattle.settings.specs.declared.settings.Refusal.{Refusal}
 use Rattle.settings.specs.declared.settings.Refusal.TheVariants.{Source, SigCrc, SigForm}
 use Rattle.sig_words.specs.declared.words.SigFields.{SigFields}
-use Rattle.signal.specs.declared.ht_sig.SigRead.TheVariants.{Fields, Refused}
 use Rattle.signal.specs.HtSig.{value, bits_in, field, crc_wrong, form_wrong, fields_in, read_of}
 use Rattle.sig_words.specs.Words.{SigFits}
 use Rattle.signal.proofs.Bits.{Two, two_in}
@@ -49,14 +49,14 @@ fields_in_width l = go (eqb (field (bits_in l) 7 1) 1)
     go false = inl refl
 
 -- the fields that the read gives are those in the bits
-read_fields : (l : List ℕ) (g : SigFields) → read_of l ≡ Fields g → fields_in (bits_in l) ≡ g
+read_fields : (l : List ℕ) (g : SigFields) → read_of l ≡ Ok g → fields_in (bits_in l) ≡ g
 read_fields l g = go (not (eqb (length l) 6)) (crc_wrong (bits_in l)) (form_wrong (bits_in l))
   where
-    no : (r : Refusal) → Refused r ≡ Fields g → ⊥
+    no : (r : Refusal) → Err r ≡ Ok g → ⊥
     no r e = let z : ◌≡◌ {A = ℕ} 0 1 = cc in omega arith
 
     go : (a b c : Bool)
-        → cond a (Refused Source) (cond b (Refused SigCrc) (cond c (Refused SigForm) (Fields (fields_in (bits_in l))))) ≡ Fields g
+        → cond a (Err Source) (cond b (Err SigCrc) (cond c (Err SigForm) (Ok (fields_in (bits_in l))))) ≡ Ok g
         → fields_in (bits_in l) ≡ g
     go true b c e = absurd (no Source e)
     go false true c e = absurd (no SigCrc e)
@@ -64,8 +64,8 @@ read_fields l g = go (not (eqb (length l) 6)) (crc_wrong (bits_in l)) (form_wron
     go false false false e = cc
 
 -- and so they fit their places
-pub read_fields_fit : (l : List ℕ) (g : SigFields) → read_of l ≡ Fields g → SigFits g
+pub read_fields_fit : (l : List ℕ) (g : SigFields) → read_of l ≡ Ok g → SigFits g
 read_fields_fit l g e = subst SigFits (read_fields l g e) (fields_in_fit l)
 
-pub read_width : (l : List ℕ) (g : SigFields) → read_of l ≡ Fields g → (g.width ≡ 20) ⊎ (g.width ≡ 40)
+pub read_width : (l : List ℕ) (g : SigFields) → read_of l ≡ Ok g → (g.width ≡ 20) ⊎ (g.width ≡ 40)
 read_width l g e = subst (λ (h : SigFields). (h.width ≡ 20) ⊎ (h.width ≡ 40)) (read_fields l g e) (fields_in_width l)

@@ -1,14 +1,9 @@
 -- The HT-SIG field by its bits (document 01, 'Signal bits'; clause 20; CRC: EWC 3.6.3, the figure).
-use Rattle.std.specs.Prelude.{◌≡◌, Bool, cond, not, ◌||◌, ◌⊎◌, List, [], ◌∷◌, ◌++◌, ℕ, zero, suc, ◌+◌, ◌-◌, ◌*◌, ◌/◌, ◌%◌, ◌<◌, ltb, eqb, length, take, drop}
+use Rattle.settings.specs.declared.settings.Refusal.{Refusal}
+use Rattle.std.specs.Prelude.{◌≡◌, Bool, cond, not, ◌||◌, ◌⊎◌, List, [], ◌∷◌, ◌++◌, ℕ, zero, suc, ◌+◌, ◌-◌, ◌*◌, ◌/◌, ◌%◌, ◌<◌, ltb, eqb, length, take, drop, Err, Ok, Result}
 use Rattle.settings.specs.declared.settings.Refusal.TheVariants.{Source, Room, SigCrc, SigForm}
 use Rattle.settings.specs.declared.settings.Settings.{Settings}
-use Rattle.settings.specs.declared.settings.Checked.{Checked}
-use Rattle.settings.specs.declared.settings.Checked.TheVariants.{Accepted, Refused}
 use Rattle.sig_words.specs.declared.words.SigFields.{SigFields}
-use Rattle.signal.specs.declared.ht_sig.Written.{Written}
-use Rattle.signal.specs.declared.ht_sig.Written.TheVariants.{Done, Refused as WriteRefused}
-use Rattle.signal.specs.declared.ht_sig.SigRead.{SigRead}
-use Rattle.signal.specs.declared.ht_sig.SigRead.TheVariants.{Fields, Refused as ReadRefused}
 use Rattle.settings.specs.Settings.{number_of}
 use Rattle.sig_words.specs.Words.{one_if}
 
@@ -96,19 +91,19 @@ fields_of s = record {
 
 -- ---- the signal write: the settings' refusals, then 8
 
-abbrev pub written_of : Checked → ℕ → Written
-written_of (Accepted s) room = cond (ltb room 6) (WriteRefused Room) Done
-written_of (Refused r) room = WriteRefused r
+abbrev pub written_of : Result Settings Refusal → ℕ → Result (Unit {0}) Refusal
+written_of (Ok s) room = cond (ltb room 6) (Err Room) (Ok tt)
+written_of (Err r) room = Err r
 
 -- the lent bytes afterwards: six written, the rest as they were; on a refusal all as they were
-abbrev pub written_into : Checked → List ℕ → List ℕ
-written_into (Accepted s) l = cond (ltb (length l) 6) l (sig_bytes (fields_of s) ++ drop 6 l)
-written_into (Refused r) l = l
+abbrev pub written_into : Result Settings Refusal → List ℕ → List ℕ
+written_into (Ok s) l = cond (ltb (length l) 6) l (sig_bytes (fields_of s) ++ drop 6 l)
+written_into (Err r) l = l
 
 -- document 01's number of each case, 0 where the bytes are written
-abbrev pub written_number : Written → ℕ
-written_number Done = 0
-written_number (WriteRefused r) = number_of r
+abbrev pub written_number : Result (Unit {0}) Refusal → ℕ
+written_number (Ok tt) = 0
+written_number (Err r) = number_of r
 
 -- ---- the signal read: 6, 13, 14
 
@@ -164,13 +159,13 @@ fields_in bits = record {
   short_guard = eqb (field bits 31 1) 1;
 }
 
-abbrev pub read_of : List ℕ → SigRead
+abbrev pub read_of : List ℕ → Result SigFields Refusal
 read_of l =
-    cond (not (eqb (length l) 6)) (ReadRefused Source)
-    (cond (crc_wrong (bits_in l)) (ReadRefused SigCrc)
-    (cond (form_wrong (bits_in l)) (ReadRefused SigForm) (Fields (fields_in (bits_in l)))))
+    cond (not (eqb (length l) 6)) (Err Source)
+    (cond (crc_wrong (bits_in l)) (Err SigCrc)
+    (cond (form_wrong (bits_in l)) (Err SigForm) (Ok (fields_in (bits_in l)))))
 
 -- document 01's number of each case, 0 where the fields are given
-abbrev pub read_number : SigRead → ℕ
-read_number (Fields g) = 0
-read_number (ReadRefused r) = number_of r
+abbrev pub read_number : Result SigFields Refusal → ℕ
+read_number (Ok g) = 0
+read_number (Err r) = number_of r

@@ -1,11 +1,9 @@
 -- What is proved of HT-SIG beside the contracts. The terms are in proofs/HtSigLaws.
-use Rattle.std.specs.Prelude.{◌≡◌, ◌↔◌, List, ℕ, ◌<◌}
+use Rattle.std.specs.Prelude.{◌≡◌, ◌↔◌, List, ℕ, ◌<◌, Ok}
 use Rattle.laws.specs.Bytes.{AreBytes}
 use Rattle.settings.specs.declared.settings.RawSettings.{RawSettings}
 use Rattle.settings.specs.declared.settings.Settings.{Settings}
-use Rattle.settings.specs.declared.settings.Checked.TheVariants.{Accepted}
 use Rattle.sig_words.specs.declared.words.SigFields.{SigFields}
-use Rattle.signal.specs.declared.ht_sig.SigRead.TheVariants.{Fields}
 use Rattle.settings.specs.Settings.{check_of}
 use Rattle.settings.specs.Statements.{NoSettingsRow, SettingsRows}
 use Rattle.signal.specs.HtSig.{fields_of, sig_bytes, written_of, written_number, read_of, read_number, SourceRow, CrcRow, FormRow}
@@ -13,9 +11,9 @@ use Rattle.signal.specs.HtSig.{fields_of, sig_bytes, written_of, written_number,
 -- the read gives fields exactly for the bytes that some accepted settings write, and they are those settings' fields
 abbrev pub ReadExactly : Type 0
 ReadExactly = (l : List ℕ) → AreBytes l
-    → (((g : SigFields) × (read_of l ≡ Fields g))
-    ↔ ((a : RawSettings) × ((s : Settings) × ((check_of a ≡ Accepted s) × (l ≡ sig_bytes (fields_of s))))))
-    × ((g : SigFields) (a : RawSettings) (s : Settings) → read_of l ≡ Fields g → check_of a ≡ Accepted s → l ≡ sig_bytes (fields_of s) → g ≡ fields_of s)
+    → (((g : SigFields) × (read_of l ≡ Ok g))
+    ↔ ((a : RawSettings) × ((s : Settings) × ((check_of a ≡ Ok s) × (l ≡ sig_bytes (fields_of s))))))
+    × ((g : SigFields) (a : RawSettings) (s : Settings) → read_of l ≡ Ok g → check_of a ≡ Ok s → l ≡ sig_bytes (fields_of s) → g ≡ fields_of s)
 
 -- ---- refusals, as the settings' statements have them: "given exactly when" its row applies and none tested before it does; 0 where none applies
 

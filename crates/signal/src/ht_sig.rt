@@ -3,20 +3,8 @@ ghost use Rattle.std.specs.Prelude.{◌≡◌, length};
 ghost use Rattle.settings.specs.Settings.{check_of};
 ghost use Rattle.signal.specs.HtSig.{fields_of, written_of, written_into, read_of};
 
-use settings::settings::{Checked, RawSettings, Refusal, Settings, check, refusal_of};
+use settings::settings::{RawSettings, Refusal, Settings, check};
 use sig_words::words::{SigFields, crc_wrong, fields_in, form_wrong, put_six, sig_word, word_in};
-
-#[derive(Clone, Copy)]
-pub enum Written {
-    Done,
-    Refused(Refusal),
-}
-
-#[derive(Clone, Copy)]
-pub enum SigRead {
-    Fields(SigFields),
-    Refused(Refusal),
-}
 
 fn fields_of(s: Settings) -> SigFields
     ensures { result ≡ fields_of s }
@@ -33,35 +21,32 @@ fn fields_of(s: Settings) -> SigFields
 }
 
 // The public signal write: six bytes and the rest of the slice as it was, or a refusal and nothing written.
-pub fn write(raw: RawSettings, out: &mut [u8]) -> Written
+pub fn write(raw: RawSettings, out: &mut [u8]) -> Result<(), Refusal>
     ensures { (result ≡ written_of (check_of raw) (length out.old)) × (out.new ≡ written_into (check_of raw) out.old) }
 {
-    let checked = check(raw);
-    let Checked::Accepted(s) = checked else {
-        return Written::Refused(refusal_of(checked));
-    };
+    let s = check(raw)?;
     if out.len() < 6 {
-        return Written::Refused(Refusal::Room);
+        return Err(Refusal::Room);
     }
     put_six(sig_word(fields_of(s)), out);
-    Written::Done
+    Ok(())
 }
 
 // The public signal read.
-pub fn read(sig: &[u8]) -> SigRead
+pub fn read(sig: &[u8]) -> Result<SigFields, Refusal>
     ensures { result ≡ read_of sig.now }
 {
     if sig.len() != 6 {
-        return SigRead::Refused(Refusal::Source);
+        return Err(Refusal::Source);
     }
     let w = word_in(sig);
     let bad_crc = crc_wrong(w);
     let bad_form = form_wrong(w);
     if bad_crc {
-        return SigRead::Refused(Refusal::SigCrc);
+        return Err(Refusal::SigCrc);
     }
     if bad_form {
-        return SigRead::Refused(Refusal::SigForm);
+        return Err(Refusal::SigForm);
     }
-    SigRead::Fields(fields_in(w))
+    Ok(fields_in(w))
 }

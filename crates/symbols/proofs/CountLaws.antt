@@ -1,4 +1,6 @@
 -- The symbol count: it is the least that fits, it is small, and its refusals are the settings'. Assumes nothing.
+use Rattle.std.specs.Prelude.{Err, Ok, Result}
+use Rattle.settings.specs.declared.settings.Refusal.{Refusal}
 use mathlib.Core.Path.{◌≡◌, refl}
 use mathlib.Core.List.{[]}
 use Prim.Native.Nat.{ℕ, zero, suc, ◌+◌, ◌-◌, ◌*◌, ◌/◌, ◌%◌, ◌≤◌, ◌<◌}
@@ -7,12 +9,9 @@ use native.Mathlib.Omega.{arith}
 use Rattle.laws.proofs.Refusing.{given_exactly}
 use Rattle.settings.specs.declared.settings.RawSettings.{RawSettings}
 use Rattle.settings.specs.declared.settings.Settings.{Settings}
-use Rattle.settings.specs.declared.settings.Checked.{Checked}
-use Rattle.settings.specs.declared.settings.Checked.TheVariants.{Accepted, Refused}
 use Rattle.settings.specs.Settings.{check_of, encoders_of, plan_for, Right}
 use Rattle.settings.proofs.SettingsLaws.{right, encoders_few, plan_fits}
 use Rattle.settings.proofs.Refusals.{settingsRules, after_settings}
-use Rattle.symbols.specs.declared.count.Count.TheVariants.{Symbols}
 use Rattle.symbols.specs.Symbols.{bits_to_send, ceil, symbols_of, count_of, count_number}
 use Rattle.symbols.specs.Statements.{CountRefusals}
 
@@ -51,14 +50,14 @@ symbols_few s r =
     go d l e p h g = omega arith
 
 -- a count that the call gives is small
-pub count_few : (a : RawSettings) (n : ℕ) → count_of (check_of a) ≡ Symbols n → n ≤ 20166
+pub count_few : (a : RawSettings) (n : ℕ) → count_of (check_of a) ≡ Ok n → n ≤ 20166
 count_few a n = go (check_of a) refl
   where
-    go : (k : Checked) → check_of a ≡ k → count_of k ≡ Symbols n → n ≤ 20166
-    go (Accepted s) e q = let i : symbols_of s ≡ n = cc in omega (arith, symbols_few s (right a s e))
-    go (Refused r) e q = let z : ◌≡◌ {A = ℕ} 0 1 = cc in absurd (omega (arith, z))
+    go : (k : Result Settings Refusal) → check_of a ≡ k → count_of k ≡ Ok n → n ≤ 20166
+    go (Ok s) e q = let i : symbols_of s ≡ n = cc in omega (arith, symbols_few s (right a s e))
+    go (Err r) e q = let z : ◌≡◌ {A = ℕ} 0 1 = cc in absurd (omega (arith, z))
 
 -- the symbol count gives each refusal exactly when its row applies and none before it does
 pub count_refusals : CountRefusals
 count_refusals a =
-    given_exactly (count_number (count_of (check_of a))) (settingsRules a) tt (after_settings a (λ (c : Checked). count_number (count_of c)) [] (λ r. refl) refl)
+    given_exactly (count_number (count_of (check_of a))) (settingsRules a) tt (after_settings a (λ (c : Result Settings Refusal). count_number (count_of c)) [] (λ r. refl) refl)

@@ -1,10 +1,7 @@
 -- The symbol count (document 01, 'Settings').
-use Rattle.std.specs.Prelude.{ℕ, ◌+◌, ◌-◌, ◌*◌, ◌/◌}
+use Rattle.settings.specs.declared.settings.Refusal.{Refusal}
+use Rattle.std.specs.Prelude.{ℕ, ◌+◌, ◌-◌, ◌*◌, ◌/◌, Err, Ok, Result}
 use Rattle.settings.specs.declared.settings.Settings.{Settings}
-use Rattle.settings.specs.declared.settings.Checked.{Checked}
-use Rattle.settings.specs.declared.settings.Checked.TheVariants.{Accepted, Refused}
-use Rattle.symbols.specs.declared.count.Count.{Count}
-use Rattle.symbols.specs.declared.count.Count.TheVariants.{Symbols, Refused as CountRefused}
 use Rattle.settings.specs.Settings.{number_of, encoders_of, plan_for}
 
 -- service, payload and tail bits
@@ -20,11 +17,11 @@ unfoldable pub symbols_of : Settings → ℕ
 symbols_of s = ceil (bits_to_send s) (plan_for s).dbps
 
 -- the call's answer goes by the settings' answer
-abbrev pub count_of : Checked → Count
-count_of (Accepted s) = Symbols (symbols_of s)
-count_of (Refused r) = CountRefused r
+abbrev pub count_of : Result Settings Refusal → Result ℕ Refusal
+count_of (Ok s) = Ok (symbols_of s)
+count_of (Err r) = Err r
 
 -- document 01's number of each case, 0 where the count is given
-abbrev pub count_number : Count → ℕ
-count_number (Symbols n) = 0
-count_number (CountRefused r) = number_of r
+abbrev pub count_number : Result ℕ Refusal → ℕ
+count_number (Ok n) = 0
+count_number (Err r) = number_of r

@@ -1,14 +1,13 @@
 -- Document 01, 'Checked by hand': P1 to P6, the symbol counts, as rows of a table.
-use Rattle.std.specs.Prelude.{true, false, List, [], ◌∷◌, ℕ}
+use Rattle.settings.specs.declared.settings.Refusal.{Refusal}
+use Rattle.std.specs.Prelude.{true, false, List, [], ◌∷◌, ℕ, Err, Ok, Result}
 use Rattle.laws.specs.Claim.{Claim, ◌is◌}
-use Rattle.symbols.specs.declared.count.Count.{Count}
-use Rattle.symbols.specs.declared.count.Count.TheVariants.{Symbols, Refused}
 use Rattle.settings.specs.Settings.{check_of}
 use Rattle.symbols.specs.Symbols.{count_of}
 
-abbrev pub given_count : Count → ℕ
-given_count (Symbols n) = n
-given_count (Refused r) = 0
+abbrev pub given_count : Result ℕ Refusal → ℕ
+given_count (Ok n) = n
+given_count (Err r) = 0
 
 -- the count that the call gives for an MCS, a width and a length, 0 where it refuses
 abbrev pub count_at : (mcs width length : ℕ) → ℕ

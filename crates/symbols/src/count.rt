@@ -3,13 +3,7 @@ ghost use Rattle.std.specs.Prelude.{◌≡◌, ◌*◌, ◌≤◌};
 ghost use Rattle.settings.specs.Settings.{check_of, Right};
 ghost use Rattle.symbols.specs.Symbols.{symbols_of, count_of};
 
-use settings::settings::{Checked, RawSettings, Refusal, Settings, check, plan_of, refusal_of};
-
-#[derive(Clone, Copy)]
-pub enum Count {
-    Symbols(u64),
-    Refused(Refusal),
-}
+use settings::settings::{RawSettings, Refusal, Settings, check, plan_of};
 
 // Six tail bits for each encoder.
 fn tail_bits(encoders: usize) -> usize
@@ -31,12 +25,9 @@ pub fn symbols_of(s: Settings) -> u64
 }
 
 // The public call.
-pub fn symbol_count(raw: RawSettings) -> Count
+pub fn symbol_count(raw: RawSettings) -> Result<u64, Refusal>
     ensures { result ≡ count_of (check_of raw) }
 {
-    let checked = check(raw);
-    let Checked::Accepted(s) = checked else {
-        return Count::Refused(refusal_of(checked));
-    };
-    Count::Symbols(symbols_of(s))
+    let s = check(raw)?;
+    Ok(symbols_of(s))
 }

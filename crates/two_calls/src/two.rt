@@ -8,43 +8,26 @@ ghost use Rattle.frame.specs.Points.{points_of, points_into};
 ghost use Rattle.query.specs.Query.{query_of};
 ghost use Rattle.demands.specs.Demand3.{SameCount, SameSignal, SamePoints, SameQuery, LocalPoints, LocalQuery, DifferingPoints, SeedPoints};
 
-use frame::points::{PointsAnswer, points};
-use query::query::{QueryAnswer, subcarrier};
-use settings::settings::RawSettings;
-use signal::ht_sig::{Written, write};
-use symbols::count::{Count, symbol_count};
+use frame::points::points;
+use query::query::{Carried, subcarrier};
+use settings::settings::{RawSettings, Refusal};
+use signal::ht_sig::write;
+use symbols::count::symbol_count;
 
+// The answers of two calls.
 #[derive(Clone, Copy)]
-pub struct TwoCounts {
-    pub one: Count,
-    pub other: Count,
+pub struct Two<T> {
+    pub one: Result<T, Refusal>,
+    pub other: Result<T, Refusal>,
 }
 
-#[derive(Clone, Copy)]
-pub struct TwoWritten {
-    pub one: Written,
-    pub other: Written,
-}
-
-#[derive(Clone, Copy)]
-pub struct TwoPoints {
-    pub one: PointsAnswer,
-    pub other: PointsAnswer,
-}
-
-#[derive(Clone, Copy)]
-pub struct TwoAnswers {
-    pub one: QueryAnswer,
-    pub other: QueryAnswer,
-}
-
-pub fn two_counts(raw: RawSettings, other_raw: RawSettings) -> TwoCounts
+pub fn two_counts(raw: RawSettings, other_raw: RawSettings) -> Two<u64>
     ensures made { (result.one ≡ count_of (check_of raw)) × (result.other ≡ count_of (check_of other_raw)) }
     ensures alike { SameCount raw other_raw result.one result.other }
 {
     let one = symbol_count(raw);
     let other = symbol_count(other_raw);
-    TwoCounts { one, other }
+    Two { one, other }
 }
 
 pub fn two_signals(
@@ -52,14 +35,14 @@ pub fn two_signals(
     other_raw: RawSettings,
     out: &mut [u8],
     other_out: &mut [u8],
-) -> TwoWritten
+) -> Two<()>
     ensures made { (result.one ≡ written_of (check_of raw) (length out.old)) × (result.other ≡ written_of (check_of other_raw) (length other_out.old)) }
     ensures left { (out.new ≡ written_into (check_of raw) out.old) × (other_out.new ≡ written_into (check_of other_raw) other_out.old) }
     ensures alike { SameSignal raw other_raw out.old other_out.old result.one result.other out.new other_out.new }
 {
     let one = write(raw, out);
     let other = write(other_raw, other_out);
-    TwoWritten { one, other }
+    Two { one, other }
 }
 
 pub fn two_points(
@@ -70,7 +53,7 @@ pub fn two_points(
     symbol: u64,
     out: &mut [f32],
     other_out: &mut [f32],
-) -> TwoPoints
+) -> Two<u64>
     ensures made { (result.one ≡ points_of (check_of raw) (length payload.now) symbol (length out.old)) × (result.other ≡ points_of (check_of other_raw) (length other_payload.now) symbol (length other_out.old)) }
     ensures left { (out.new ≡ points_into (check_of raw) payload.now symbol out.old) × (other_out.new ≡ points_into (check_of other_raw) other_payload.now symbol other_out.old) }
     ensures alike { SamePoints raw other_raw payload.now other_payload.now symbol out.old other_out.old result.one result.other out.new other_out.new }
@@ -80,7 +63,7 @@ pub fn two_points(
 {
     let one = points(raw, payload, symbol, out);
     let other = points(other_raw, other_payload, symbol, other_out);
-    TwoPoints { one, other }
+    Two { one, other }
 }
 
 pub fn two_queries(
@@ -91,12 +74,12 @@ pub fn two_queries(
     symbol: u64,
     stream: u64,
     at: i32,
-) -> TwoAnswers
+) -> Two<Carried>
     ensures made { (result.one ≡ query_of (check_of raw) payload.now symbol stream at) × (result.other ≡ query_of (check_of other_raw) other_payload.now symbol stream at) }
     ensures alike { SameQuery raw other_raw payload.now other_payload.now symbol result.one result.other }
     ensures local { LocalQuery raw other_raw payload.now other_payload.now symbol result.one result.other }
 {
     let one = subcarrier(raw, payload, symbol, stream, at);
     let other = subcarrier(other_raw, other_payload, symbol, stream, at);
-    TwoAnswers { one, other }
+    Two { one, other }
 }

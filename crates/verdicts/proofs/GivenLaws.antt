@@ -1,4 +1,5 @@
 -- A point is given exactly where the rules give it; what the search's answer says; what a symbol's own floats show. Assumes of the plan that it fits.
+use Rattle.std.specs.Prelude.{None, Some}
 use mathlib.Core.Path.{◌≡◌, ◌∙◌, refl, sym, ap, ap₂, subst}
 use mathlib.Core.Bool.{Bool, true, false, cond, not, ◌&&◌}
 use mathlib.Core.List.{List}
@@ -31,7 +32,6 @@ use Rattle.subcarriers.proofs.SubcarrierLaws.{place_used_for, places_some}
 use Rattle.pilots.specs.Pilots.{pilot_sign}
 use Rattle.modulator.specs.Symbol.{turned_if, sent_levels, axis_level, stream_floats}
 use Rattle.modulator.proofs.SymbolLaws.{sent_used, symbol_at_lem, symbol_ext}
-use Rattle.detector.specs.declared.search.Search.TheVariants.{AllGiven, At}
 use Rattle.demapper.specs.Demapped.{same_bits, level_label, negated_label, first_label, second_label, data_given, bit_of_label, point_bit}
 use Rattle.detector.specs.Detected.{float_at, used_given, point_given, found_at, search_of, carrier_place_of, shown_bit, GivenByRules, PointByRules, fails_at}
 use Rattle.verdicts.specs.Searches.{AllPass, FirstFailing, FloatsOf, ShownBack}
@@ -315,7 +315,7 @@ module _ (p : Plan) (points : List Float) (format n : ℕ) where
       inr (record {
         stream = first / width;
         place = first % width;
-        found = search_first ∙ ap (λ (b : Bool). cond b (At (first / width) (first % width)) AllGiven) (lt-ltb first total below);
+        found = search_first ∙ ap (λ (b : Bool). cond b (Some ((first / width), (first % width))) None) (lt-ltb first total below);
         stream_in = (div-lt_iff_lt-mul {k = width} (places_some p.width)).1 below;
         place_in = mod-lt first (places_some p.width);
         fails = not_back (point_given p points format n (first / width) (first % width)) true s.passes;
@@ -326,7 +326,7 @@ module _ (p : Plan) (points : List Float) (format n : ℕ) where
       }))
       (λ (s : NonePasses (fails_at p points format n) 0 total first).
       inl (record {
-        all_given = search_first ∙ ap (λ (b : Bool). cond b (At (first / width) (first % width)) AllGiven) (le-ltb first total (omega (arith, s.beyond)));
+        all_given = search_first ∙ ap (λ (b : Bool). cond b (Some ((first / width), (first % width))) None) (le-ltb first total (omega (arith, s.beyond)));
         passed = λ i f l u. passed_at i f u (s.fails (i * width + f) (omega arith) (in_total (digits_lt l u)));
       }))
       (first_cases (fails_at p points format n) 0 total)

@@ -1,5 +1,9 @@
 -- The reader's refusals, each given exactly when its row of document 01's table applies and none tested before it does; the place of 9; what a refusal
 -- leaves. Assumes nothing.
+use Rattle.std.specs.Prelude.{Err, None, Ok, Option, Result, Some}
+use Rattle.settings.specs.declared.settings.Refusal.{Refusal}
+use Rattle.acceptance.specs.declared.accept.StepRefusal.{StepRefusal}
+use Rattle.acceptance.specs.declared.accept.StepRefusal.TheVariants.{BadPoint, Refused as StepRefused}
 use mathlib.Core.Path.{◌≡◌, ◌∙◌, refl, sym, ap, ap₂, subst}
 use mathlib.Core.Bool.{Bool, true, false, cond, not, ◌||◌, ◌&&◌}
 use mathlib.Core.List.{List, [], ◌∷◌}
@@ -19,16 +23,12 @@ use Rattle.laws.proofs.Search.{AllBelow, FirstFailing as FirstWrong, search_belo
 use Rattle.chain.specs.Decoder.{decodes}
 use Rattle.settings.specs.declared.settings.Refusal.TheVariants.{Room, Code, Frame, Closed}
 use Rattle.settings.specs.declared.settings.Settings.{Settings}
-use Rattle.settings.specs.declared.settings.Checked.{Checked}
-use Rattle.settings.specs.declared.settings.Checked.TheVariants.{Accepted, Refused}
 use Rattle.settings.specs.Settings.{check_of, checked_number, plan_for, Right}
 use Rattle.settings.specs.Statements.{SettingsRefusals}
 use Rattle.settings.proofs.SettingsLaws.{right, plan_fits, planned_width}
 use Rattle.settings.proofs.Refusals.{settings_refusals}
 use Rattle.subcarriers.specs.Subcarriers.{places_of, subcarrier_at}
 use Rattle.frame.specs.Points.{floats_of}
-use Rattle.detector.specs.declared.search.Search.{Search}
-use Rattle.detector.specs.declared.search.Search.TheVariants.{AllGiven, At}
 use Rattle.detector.specs.Detected.{point_given, search_of, PointByRules}
 use Rattle.reader_state.proofs.StateLaws.{not_closed, only_ended}
 use Rattle.verdicts.specs.Searches.{AllPass, FirstFailing}
@@ -38,11 +38,7 @@ use Rattle.deframer.specs.Deframed.{input_ok, framed}
 use Rattle.deframer.proofs.Framing.{framed_exactly, right_ok}
 use Rattle.reader_state.specs.declared.state.OpenSettings.{OpenSettings}
 use Rattle.reader_state.specs.declared.state.Reader.{Reader}
-use Rattle.acceptance.specs.declared.accept.StepAnswer.{StepAnswer}
-use Rattle.acceptance.specs.declared.accept.StepAnswer.TheVariants.{First, Next, BadPoint, Refused as StepRefused}
 use Rattle.acceptance.specs.declared.accept.Stepped.{Stepped}
-use Rattle.reader_place.specs.declared.place.PlaceAnswer.{PlaceAnswer}
-use Rattle.reader_place.specs.declared.place.PlaceAnswer.TheVariants.{Found, Refused as PlaceRefused}
 use Rattle.reader_state.specs.State.{OnlyEnded, open_raw, start_by, start_of, start_number, history_of, first_bit, closed_of, ended_of}
 use Rattle.acceptance.specs.Accepted.{answered, scrambler_for, plain_of, frame_right, step_into_by, accepted_with}
 use Rattle.reader.specs.Step.{by_search, no_room, step_of, written_by, step_number, step_stream, step_subcarrier}
@@ -105,13 +101,13 @@ module _ (s : Settings) (st : Reader) (X : ℕ → ℕ) where
 
 -- ---- the rows of a state in range, each with its test
 
-abbrev pub is_at : Search → Bool
-is_at AllGiven = false
-is_at (At i f) = true
+abbrev pub is_at : Option (ℕ × ℕ) → Bool
+is_at None = false
+is_at (Some (i, f)) = true
 
 -- the answer's number by the tests of a symbol's code and frame
 code_number : (c f first : Bool) (k : ℕ) (m e : Reader)
-    → step_number (cond c (cond f (answered (cond first (First k) Next) m) (answered (StepRefused Frame) e)) (answered (StepRefused Code) e)).answer
+    → step_number (cond c (cond f (answered (cond first (Ok (Some k)) (Ok None)) m) (answered (Err (StepRefused Frame)) e)) (answered (Err (StepRefused Code)) e)).answer
     ≡ cond (not c) 10 (cond (not f) 11 0)
 code_number true true true k m e = refl
 code_number true true false k m e = refl
@@ -119,17 +115,17 @@ code_number true false first k m e = refl
 code_number false f first k m e = refl
 
 module _ (s : Settings) (st : Reader) (points : List Float) where
-  pub search_number : (x : Search) → step_number (by_search x s st points).answer
+  pub search_number : (x : Option (ℕ × ℕ)) → step_number (by_search x s st points).answer
       ≡ cond (is_at x) 9 (cond (not (decoded s st points)) 10 (cond (not (frame_right s st (heard s st points))) 11 0))
-  search_number (At i f) = refl
-  search_number AllGiven =
+  search_number (Some (i, f)) = refl
+  search_number None =
       code_number (decoded s st points) (frame_right s st (heard s st points)) (eqb st.symbol 0) (scrambler_for st (heard s st points)) (moved s st points) (ended_of st)
 
 module _ (st : Reader) (points : List Float) (bytes : ℕ) (o : InReach st) where
   sound : Right (settings_in st)
   sound = right (open_raw st.settings) (settings_in st) o.accepted
 
-  abbrev search : Search
+  abbrev search : Option (ℕ × ℕ)
   search = search_of (plan_for (settings_in st)) points (settings_in st).format st.symbol
 
   given_at : (i f : ℕ) → i < (plan_for (settings_in st)).streams → f < places_of (plan_for (settings_in st)).width
@@ -196,7 +192,7 @@ module _ (st : Reader) (points : List Float) (bytes : ℕ) (o : InReach st) wher
     right = frame_wrong (settings_in st) st (input_in st points);
   }
 
-  room_number : (r : Bool) (x : Stepped) → step_number (cond r (answered (StepRefused Room) st) x).answer ≡ cond r 8 (step_number x.answer)
+  room_number : (r : Bool) (x : Stepped) → step_number (cond r (answered (Err (StepRefused Room)) st) x).answer ≡ cond r 8 (step_number x.answer)
   room_number true x = refl
   room_number false x = refl
 
@@ -234,11 +230,11 @@ step_refusals st points bytes = (
 pub refused_step_unchanged : RefusedUnchanged
 refused_step_unchanged st points payload = go (step_of st points (length payload)).answer
   where
-    go : (a : StepAnswer) → (step_number a ≡ 0 → ⊥) → step_into_by a (written_by (check_of (open_raw st.settings)) st points payload) payload ≡ payload
-    go (First k) n = absurd (n refl)
-    go Next n = absurd (n refl)
-    go (BadPoint i z) n = refl
-    go (StepRefused r) n = refl
+    go : (a : Result (Option ℕ) StepRefusal) → (step_number a ≡ 0 → ⊥) → step_into_by a (written_by (check_of (open_raw st.settings)) st points payload) payload ≡ payload
+    go (Ok (Some k)) n = absurd (n refl)
+    go (Ok None) n = absurd (n refl)
+    go (Err (BadPoint i z)) n = refl
+    go (Err (StepRefused r)) n = refl
 
 -- what state stands beside each refusal
 abbrev Beside : Reader → Stepped → Type 0
@@ -260,66 +256,66 @@ outside n =
 pub refused_step_state : RefusedState
 refused_step_state st points bytes =
     step_by_lem (Beside st) st
-    (given_back (StepRefused Closed) (λ low high. omega (arith, high)))
-    (given_back (StepRefused Room) (λ low high. omega (arith, low)))
-    (λ i z. ended (BadPoint i z) (omega arith) (omega arith))
-    (ended (StepRefused Code) (omega arith) (omega arith))
-    (ended (StepRefused Frame) (omega arith) (omega arith))
+    (given_back (Err (StepRefused Closed)) (λ low high. omega (arith, high)))
+    (given_back (Err (StepRefused Room)) (λ low high. omega (arith, low)))
+    (λ i z. ended (Err (BadPoint i z)) (omega arith) (omega arith))
+    (ended (Err (StepRefused Code)) (omega arith) (omega arith))
+    (ended (Err (StepRefused Frame)) (omega arith) (omega arith))
     points bytes
     (λ o. taken (accepted_with st (scrambler_for st (heard (settings_in st) st points))) (moved (settings_in st) st points)
     (accepted_zero (eqb st.symbol 0) (scrambler_for st (heard (settings_in st) st points))))
   where
-    given_back : (a : StepAnswer) → (8 < step_number a → step_number a < 12 → ⊥) → Beside st (answered a st)
+    given_back : (a : Result (Option ℕ) StepRefusal) → (8 < step_number a → step_number a < 12 → ⊥) → Beside st (answered a st)
     given_back a out = (λ e. let b = between (step_number a) e in absurd (out b.0 b.1), λ e. refl)
 
-    ended : (a : StepAnswer) → 8 < step_number a → step_number a < 12 → Beside st (answered a (ended_of st))
+    ended : (a : Result (Option ℕ) StepRefusal) → 8 < step_number a → step_number a < 12 → Beside st (answered a (ended_of st))
     ended a low high = (λ e. only_ended st, λ e. absurd ((outside (step_number a) e).1 low high))
 
-    taken : (a : StepAnswer) (m : Reader) → step_number a ≡ 0 → Beside st (answered a m)
+    taken : (a : Result (Option ℕ) StepRefusal) (m : Reader) → step_number a ≡ 0 → Beside st (answered a m)
     taken a m z = (λ e. absurd (omega (arith, z, (between (step_number a) e).0)), λ e. absurd (omega (arith, z, (outside (step_number a) e).0)))
 
 -- the place that 9 returns is the first of a point that is not given
-nine_found : (st : Reader) (s : Settings) (points : List Float) (x : Search) (i : ℕ) (z : ℤ) → (by_search x s st points).answer ≡ BadPoint i z
-    → (x ≡ AllGiven → ⊥)
+nine_found : (st : Reader) (s : Settings) (points : List Float) (x : Option (ℕ × ℕ)) (i : ℕ) (z : ℤ) → (by_search x s st points).answer ≡ Err (BadPoint i z)
+    → (x ≡ None → ⊥)
 nine_found st s points x i z e g =
     not_nine (decoded s st points) (frame_right s st (heard s st points))
-    (sym (search_number s st points AllGiven) ∙ ap (λ (y : Search). step_number (by_search y s st points).answer) (sym g) ∙ ap step_number e)
+    (sym (search_number s st points None) ∙ ap (λ (y : Option (ℕ × ℕ)). step_number (by_search y s st points).answer) (sym g) ∙ ap step_number e)
   where
     not_nine : (c f : Bool) → ◌≡◌ {A = ℕ} (cond (not c) 10 (cond (not f) 11 0)) 9 → ⊥
     not_nine true true h = omega (arith, h)
     not_nine true false h = omega (arith, h)
     not_nine false f h = omega (arith, h)
 
-room_not_nine : (st : Reader) (r : Bool) (x : Stepped) (i : ℕ) (z : ℤ) → (cond r (answered (StepRefused Room) st) x).answer ≡ BadPoint i z → x.answer ≡ BadPoint i z
+room_not_nine : (st : Reader) (r : Bool) (x : Stepped) (i : ℕ) (z : ℤ) → (cond r (answered (Err (StepRefused Room)) st) x).answer ≡ Err (BadPoint i z) → x.answer ≡ Err (BadPoint i z)
 room_not_nine st true x i z e = absurd (let n : ◌≡◌ {A = ℕ} 8 9 = ap step_number e in omega arith)
 room_not_nine st false x i z e = e
 
 -- a step that gives 9 names a place
 nine_named : (st : Reader) (points : List Float) (bytes : ℕ) → let a = (step_of st points bytes).answer in
-    step_number a ≡ 9 → a ≡ BadPoint (step_stream a) (step_subcarrier a)
+    step_number a ≡ 9 → a ≡ Err (BadPoint (step_stream a) (step_subcarrier a))
 nine_named st points bytes =
-    step_by_lem (λ r. step_number r.answer ≡ 9 → r.answer ≡ BadPoint (step_stream r.answer) (step_subcarrier r.answer)) st
+    step_by_lem (λ r. step_number r.answer ≡ 9 → r.answer ≡ Err (BadPoint (step_stream r.answer) (step_subcarrier r.answer))) st
     (λ e. absurd (omega (arith, e))) (λ e. absurd (omega (arith, e))) (λ i z e. refl)
     (λ e. absurd (omega (arith, e))) (λ e. absurd (omega (arith, e))) points bytes
     (λ o e. absurd (omega (arith, e, accepted_zero (eqb st.symbol 0) (scrambler_for st (heard (settings_in st) st points)))))
 
 named_first : (st : Reader) (points : List Float) (bytes i : ℕ) (z : ℤ)
-    → (step_of st points bytes).answer ≡ BadPoint i z → FirstPlace st points i z
+    → (step_of st points bytes).answer ≡ Err (BadPoint i z) → FirstPlace st points i z
 named_first st points bytes i z e = ⊎_elim opened closed (reach st points bytes)
   where
-    closed : step_of st points bytes ≡ answered (StepRefused Closed) st → FirstPlace st points i z
+    closed : step_of st points bytes ≡ answered (Err (StepRefused Closed)) st → FirstPlace st points i z
     closed h = absurd (let n : ◌≡◌ {A = ℕ} 12 9 = ap (λ (r : Stepped). step_number r.answer) (sym h) ∙ ap step_number e in omega arith)
 
     opened : InReach st → FirstPlace st points i z
     opened o =
         let s = settings_in st in
         let p = plan_for s in
-        let f : (by_search (search_of p points s.format st.symbol) s st points).answer ≡ BadPoint i z =
+        let f : (by_search (search_of p points s.format st.symbol) s st points).answer ≡ Err (BadPoint i z) =
         room_not_nine st (no_room s (length points) bytes) _ i z (ap (λ (r : Stepped). r.answer) (sym (step_open st points bytes o)) ∙ e) in
         ⊎_elim
         (λ (a : AllPass p points s.format st.symbol). absurd (nine_found st s points _ i z f a.all_given))
         (λ (w : FirstFailing p points s.format st.symbol).
-        let g : BadPoint w.stream (subcarrier_at s.width w.place) ≡ BadPoint i z = ap (λ (x : Search). (by_search x s st points).answer) (sym w.found) ∙ f in
+        let g : Err (BadPoint w.stream (subcarrier_at s.width w.place)) ≡ Err (BadPoint i z) = ap (λ (x : Option (ℕ × ℕ)). (by_search x s st points).answer) (sym w.found) ∙ f in
         let here : w.stream ≡ i = ap step_stream g in
         let wide = unfolded_width st points bytes o in
         record {
@@ -342,13 +338,13 @@ place_is_first st points bytes nine = let e = nine_named st points bytes nine in
 -- ---- the start
 
 -- its number is the settings'
-start_number_lem : (x : Checked) (o : OpenSettings) → start_number (start_by x o).answer ≡ checked_number x
-start_number_lem (Accepted s) o = refl
-start_number_lem (Refused r) o = refl
+start_number_lem : (x : Result Settings Refusal) (o : OpenSettings) → start_number (start_by x o).answer ≡ checked_number x
+start_number_lem (Ok s) o = refl
+start_number_lem (Err r) o = refl
 
-start_closed : (x : Checked) (o : OpenSettings) → (start_number (start_by x o).answer ≡ 0 → ⊥) → ClosedRow (start_by x o).state
-start_closed (Accepted s) o n = absurd (n refl)
-start_closed (Refused r) o n = λ (i : InReach (start_by (Refused r) o).state). true_not_false i.in_range.going
+start_closed : (x : Result Settings Refusal) (o : OpenSettings) → (start_number (start_by x o).answer ≡ 0 → ⊥) → ClosedRow (start_by x o).state
+start_closed (Ok s) o n = absurd (n refl)
+start_closed (Err r) o n = λ (i : InReach (start_by (Err r) o).state). true_not_false i.in_range.going
 
 pub start_refusals : StartRefusals
 start_refusals o =
@@ -364,38 +360,38 @@ start_refusals o =
 -- ---- the place call
 
 -- a place call that gives 9 has found a place
-abbrev FoundNamed : PlaceAnswer → Type 0
-FoundNamed b = place_number b ≡ 9 → b ≡ Found (place_stream b) (place_subcarrier b)
+abbrev FoundNamed : Result (Option (ℕ × ℤ)) Refusal → Type 0
+FoundNamed b = place_number b ≡ 9 → b ≡ Ok (Some ((place_stream b), (place_subcarrier b)))
 
 place_named : (st : Reader) (points : List Float) → FoundNamed (place_of st points)
 place_named st points = go (check_of (open_raw st.settings))
   where
-    found : (x : Search) (s : Settings) → FoundNamed (found_as x s)
-    found AllGiven s = λ e. absurd (omega (arith, e))
-    found (At i f) s = λ e. refl
+    found : (x : Option (ℕ × ℕ)) (s : Settings) → FoundNamed (found_as x s)
+    found None s = λ e. absurd (omega (arith, e))
+    found (Some (i, f)) s = λ e. refl
 
-    tested : (closed small : Bool) (a : PlaceAnswer) → FoundNamed a
-        → FoundNamed (cond closed (PlaceRefused Closed) (cond small (PlaceRefused Room) a))
+    tested : (closed small : Bool) (a : Result (Option (ℕ × ℤ)) Refusal) → FoundNamed a
+        → FoundNamed (cond closed (Err Closed) (cond small (Err Room) a))
     tested true small a h = λ e. absurd (omega (arith, e))
     tested false true a h = λ e. absurd (omega (arith, e))
     tested false false a h = h
 
-    go : (x : Checked) → FoundNamed (place_by x st points)
-    go (Accepted s) =
+    go : (x : Result Settings Refusal) → FoundNamed (place_by x st points)
+    go (Ok s) =
         tested (closed_of s st) (ltb (length points) (floats_of s)) _ (found (search_of (plan_for s) points s.format st.symbol) s)
-    go (Refused r) = λ e. absurd (omega (arith, e))
+    go (Err r) = λ e. absurd (omega (arith, e))
 
-tied_search : (st : Reader) (s : Settings) (points : List Float) (x : Search) (i : ℕ) (z : ℤ)
-    → ((by_search x s st points).answer ≡ BadPoint i z) ↔ (found_as x s ≡ Found i z)
-tied_search st s points (At j f) i z =
-    (λ e. ap₂ Found (ap step_stream e) (ap step_subcarrier e), λ e. ap₂ BadPoint (ap place_stream e) (ap place_subcarrier e))
-tied_search st s points AllGiven i z = (
-  λ e. absurd (nine_found st s points AllGiven i z e refl),
+tied_search : (st : Reader) (s : Settings) (points : List Float) (x : Option (ℕ × ℕ)) (i : ℕ) (z : ℤ)
+    → ((by_search x s st points).answer ≡ Err (BadPoint i z)) ↔ (found_as x s ≡ Ok (Some (i, z)))
+tied_search st s points (Some (j, f)) i z =
+    (λ e. ap₂ (λ (i : ℕ) (z : ℤ). Ok (Some (i, z))) (ap step_stream e) (ap step_subcarrier e), λ e. ap₂ (λ (i : ℕ) (z : ℤ). Err (BadPoint i z)) (ap place_stream e) (ap place_subcarrier e))
+tied_search st s points None i z = (
+  λ e. absurd (nine_found st s points None i z e refl),
   λ e. absurd (let n : ◌≡◌ {A = ℕ} 0 9 = ap place_number e in omega arith),
 )
 
-tied_room : (st : Reader) (small : Bool) (r : Stepped) (a : PlaceAnswer) (i : ℕ) (z : ℤ) → (r.answer ≡ BadPoint i z) ↔ (a ≡ Found i z)
-    → ((cond small (answered (StepRefused Room) st) r).answer ≡ BadPoint i z) ↔ (cond small (PlaceRefused Room) a ≡ Found i z)
+tied_room : (st : Reader) (small : Bool) (r : Stepped) (a : Result (Option (ℕ × ℤ)) Refusal) (i : ℕ) (z : ℤ) → (r.answer ≡ Err (BadPoint i z)) ↔ (a ≡ Ok (Some (i, z)))
+    → ((cond small (answered (Err (StepRefused Room)) st) r).answer ≡ Err (BadPoint i z)) ↔ (cond small (Err Room) a ≡ Ok (Some (i, z)))
 tied_room st true r a i z h = (
   λ e. absurd (let n : ◌≡◌ {A = ℕ} 8 9 = ap step_number e in omega arith),
   λ e. absurd (let n : ◌≡◌ {A = ℕ} 8 9 = ap place_number e in omega arith),
@@ -403,16 +399,16 @@ tied_room st true r a i z h = (
 tied_room st false r a i z h = h
 
 tied : (st : Reader) (points : List Float) (bytes : ℕ) → InReach st → (settings_in st).length ≤ bytes → (i : ℕ) (z : ℤ)
-    → ((step_of st points bytes).answer ≡ BadPoint i z) ↔ (place_of st points ≡ Found i z)
+    → ((step_of st points bytes).answer ≡ Err (BadPoint i z)) ↔ (place_of st points ≡ Ok (Some (i, z)))
 tied st points bytes o enough i z =
     let s = settings_in st in
     let x = search_of (plan_for s) points s.format st.symbol in
     let small : no_room s (length points) bytes ≡ ltb (length points) (floats_of s) = last (ltb (length points) (floats_of s)) (le-ltb bytes s.length enough) in
-    let step : step_of st points bytes ≡ cond (ltb (length points) (floats_of s)) (answered (StepRefused Room) st) (by_search x s st points) =
-    step_open st points bytes o ∙ ap (λ (b : Bool). cond b (answered (StepRefused Room) st) (by_search x s st points)) small in
-    let place : place_of st points ≡ cond (ltb (length points) (floats_of s)) (PlaceRefused Room) (found_as x s) =
-    ap (λ (c : Checked). place_by c st points) o.accepted
-    ∙ ap (λ (b : Bool). cond b (PlaceRefused Closed) (cond (ltb (length points) (floats_of s)) (PlaceRefused Room) (found_as x s))) (not_closed s st o.in_range) in
+    let step : step_of st points bytes ≡ cond (ltb (length points) (floats_of s)) (answered (Err (StepRefused Room)) st) (by_search x s st points) =
+    step_open st points bytes o ∙ ap (λ (b : Bool). cond b (answered (Err (StepRefused Room)) st) (by_search x s st points)) small in
+    let place : place_of st points ≡ cond (ltb (length points) (floats_of s)) (Err Room) (found_as x s) =
+    ap (λ (c : Result Settings Refusal). place_by c st points) o.accepted
+    ∙ ap (λ (b : Bool). cond b (Err Closed) (cond (ltb (length points) (floats_of s)) (Err Room) (found_as x s))) (not_closed s st o.in_range) in
     let h = tied_room st (ltb (length points) (floats_of s)) (by_search x s st points) (found_as x s) i z (tied_search st s points x i z) in
     (λ e. place ∙ h.0 (ap (λ (r : Stepped). r.answer) (sym step) ∙ e), λ e. ap (λ (r : Stepped). r.answer) step ∙ h.1 (sym place ∙ e))
   where
@@ -427,5 +423,5 @@ place_tied st points bytes o enough = (
 )
   where
     step_named : place_number (place_of st points) ≡ 9
-        → (step_of st points bytes).answer ≡ BadPoint (place_stream (place_of st points)) (place_subcarrier (place_of st points))
+        → (step_of st points bytes).answer ≡ Err (BadPoint (place_stream (place_of st points)) (place_subcarrier (place_of st points)))
     step_named e = (tied st points bytes o enough _ _).1 (place_named st points e)

@@ -1,4 +1,5 @@
 -- A symbol's points are the floats of its half labels exactly where they pass the search and show its label bits. Assumes of the plan that it fits.
+use Rattle.std.specs.Prelude.{None}
 use mathlib.Core.Path.{◌≡◌, ◌∙◌, refl, sym, ap, ap₂, subst}
 use mathlib.Core.Bool.{Bool, true, false}
 use mathlib.Core.List.{List}
@@ -26,7 +27,6 @@ use Rattle.subcarriers.specs.Subcarriers.{use_of, places_of, subcarrier_at, uppe
 use Rattle.subcarriers.proofs.SubcarrierLaws.{use_right, place_used_for, places_some}
 use Rattle.modulator.specs.Symbol.{turned_if, sent_levels, axis_level, stream_floats, symbol_float}
 use Rattle.modulator.proofs.SymbolLaws.{sent_used, symbol_at_lem}
-use Rattle.detector.specs.declared.search.Search.TheVariants.{AllGiven}
 use Rattle.demapper.specs.Demapped.{bit_of_label}
 use Rattle.detector.specs.Asked.{place_bit}
 use Rattle.detector.specs.Detected.{float_at, search_of, shown_bit, PointByRules}
@@ -86,7 +86,7 @@ module _ (p : Plan) (fits : Fits p) (x : ℕ → ℕ) (points : List Float) (for
   own_back floats = shown_back p fits half points format n (record { label = λ i m stream l. half_lt p x n i m; floats = floats })
 
   -- the floats of a symbol's half labels pass the search
-  pub floats_given : HalfFloats p x points format n → search_of p points format n ≡ AllGiven
+  pub floats_given : HalfFloats p x points format n → search_of p points format n ≡ None
   floats_given floats = sym (found_none p points format n (own_back floats).given)
 
   -- and show its label bits
@@ -168,14 +168,14 @@ module _ (p : Plan) (fits : Fits p) (x : ℕ → ℕ) (points : List Float) (for
         axis_float (suc (suc a)) l = absurd (omega (arith, l))
 
   -- a search that passes passes every point
-  all_pass : search_of p points format n ≡ AllGiven → AllPass p points format n
+  all_pass : search_of p points format n ≡ None → AllPass p points format n
   all_pass e =
       ⊎_elim (λ pass. pass)
       (λ (stop : FirstFailing p points format n). let z : ◌≡◌ {A = ℕ} 0 1 = cc in absurd (omega arith))
       (search_cases p points format n)
 
   -- points that pass the search and show a symbol's label bits are its floats, by their bits
-  pub shown_floats : search_of p points format n ≡ AllGiven → LabelsShown p x points n → HalfFloats p x points format n
+  pub shown_floats : search_of p points format n ≡ None → LabelsShown p x points n → HalfFloats p x points format n
   shown_floats e shown g l =
       let floats = stream_floats p.width in
       let some : 0 < floats = omega (arith, places_some p.width) in

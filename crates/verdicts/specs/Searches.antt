@@ -1,5 +1,5 @@
 -- What the search's answer says, and what a symbol's own floats show.
-use Rattle.std.specs.Prelude.{◌≡◌, true, false, List, ℕ, ◌*◌, ◌/◌, ◌%◌, ◌^◌, ◌<◌, get_or, Float}
+use Rattle.std.specs.Prelude.{◌≡◌, true, false, List, ℕ, ◌*◌, ◌/◌, ◌%◌, ◌^◌, ◌<◌, get_or, Float, None, Some}
 use Rattle.std.specs.Float.{nan, binary32}
 use Rattle.std.specs.Float.Ieee.{to_bits}
 use Rattle.chain.specs.declared.plan.Plan.{Plan}
@@ -7,20 +7,19 @@ use Rattle.chain.specs.Parser.{axis_bits}
 use Rattle.chain.specs.Labels.{halves_of}
 use Rattle.subcarriers.specs.Subcarriers.{places_of}
 use Rattle.modulator.specs.Symbol.{stream_floats, symbol_float}
-use Rattle.detector.specs.declared.search.Search.TheVariants.{AllGiven, At}
 use Rattle.demapper.specs.Demapped.{bit_of_label}
 use Rattle.detector.specs.Detected.{point_given, search_of, shown_bit}
 
 -- every point of a symbol is one the rules give
 pub record AllPass (p : Plan) (points : List Float) (format n : ℕ) : Type 0 where
-  pub all_given : search_of p points format n ≡ AllGiven
+  pub all_given : search_of p points format n ≡ None
   pub passed : (i f : ℕ) → i < p.streams → f < places_of p.width → point_given p points format n i f ≡ true
 
 -- "streams in order, subcarriers rising": the first that is not
 pub record FirstFailing (p : Plan) (points : List Float) (format n : ℕ) : Type 0 where
   pub stream : ℕ
   pub place : ℕ
-  pub found : search_of p points format n ≡ At stream place
+  pub found : search_of p points format n ≡ Some (stream, place)
   pub stream_in : stream < p.streams
   pub place_in : place < places_of p.width
   pub fails : point_given p points format n stream place ≡ false

@@ -1,9 +1,9 @@
 -- What is proved of the reader beside its contracts, in document 01's words. The terms are in proofs/.
-use Rattle.std.specs.Prelude.{◌≡◌, List, ◌↔◌, ◌⊎◌, ℕ, ◌+◌, ◌-◌, ◌*◌, ◌<◌, ◌≤◌, length, get_or, ℤ, Float}
+use Rattle.acceptance.specs.declared.accept.StepRefusal.TheVariants.{BadPoint}
+use Rattle.std.specs.Prelude.{◌≡◌, List, ◌↔◌, ◌⊎◌, ℕ, ◌+◌, ◌-◌, ◌*◌, ◌<◌, ◌≤◌, length, get_or, ℤ, Float, Err, Ok, Some}
 use Rattle.chain.specs.Plan.{groups_of}
 use Rattle.chain.specs.Decoder.{history_after, dealt}
 use Rattle.settings.specs.declared.settings.Settings.{Settings}
-use Rattle.settings.specs.declared.settings.Checked.TheVariants.{Accepted}
 use Rattle.settings.specs.Settings.{check_of, settings_of, plan_for}
 use Rattle.settings.specs.Statements.{SettingsRefusals}
 use Rattle.subcarriers.specs.Subcarriers.{places_of, subcarrier_at}
@@ -13,8 +13,6 @@ use Rattle.decoder.specs.Statements.{SomeInputs}
 use Rattle.deframer.specs.Statements.{RightBit}
 use Rattle.reader_state.specs.declared.state.OpenSettings.{OpenSettings}
 use Rattle.reader_state.specs.declared.state.Reader.{Reader}
-use Rattle.acceptance.specs.declared.accept.StepAnswer.TheVariants.{BadPoint}
-use Rattle.reader_place.specs.declared.place.PlaceAnswer.TheVariants.{Found}
 use Rattle.reader_state.specs.State.{InRange, OnlyEnded, open_raw, start_of, start_number, history_of, first_bit}
 use Rattle.acceptance.specs.Accepted.{scrambler_for, plain_of}
 use Rattle.reader.specs.Step.{heard_input, step_of, step_into, step_number, step_stream, step_subcarrier}
@@ -28,7 +26,7 @@ settings_in st = settings_of (open_raw st.settings)
 
 -- a state in range, its settings accepted
 pub record InReach (st : Reader) : Type 0 where
-  pub accepted : check_of (open_raw st.settings) ≡ Accepted (settings_in st)
+  pub accepted : check_of (open_raw st.settings) ≡ Ok (settings_in st)
   pub in_range : InRange (settings_in st) st
 
 -- 12, "reader state finished, ended by 9 to 11, or outside its ranges"
@@ -93,7 +91,7 @@ pub record FirstPlace (st : Reader) (points : List Float) (i : ℕ) (z : ℤ) : 
 -- a step that gives 9 names its place, and that is the first
 abbrev pub PlaceIsFirst : Type 0
 PlaceIsFirst = (st : Reader) (points : List Float) (bytes : ℕ) → let a = (step_of st points bytes).answer in step_number a ≡ 9
-    → (a ≡ BadPoint (step_stream a) (step_subcarrier a)) × FirstPlace st points (step_stream a) (step_subcarrier a)
+    → (a ≡ Err (BadPoint (step_stream a) (step_subcarrier a))) × FirstPlace st points (step_stream a) (step_subcarrier a)
 
 -- "A refusal .. writes nothing"
 abbrev pub RefusedUnchanged : Type 0
@@ -133,4 +131,4 @@ PlaceTied = (st : Reader) (points : List Float) (bytes : ℕ) → InReach st →
     → let a = (step_of st points bytes).answer in let b = place_of st points in
     ((step_number a ≡ 9) ↔ (place_number b ≡ 9))
     × (place_number b ≡ 9
-    → (b ≡ Found (place_stream b) (place_subcarrier b)) × ((step_stream a ≡ place_stream b) × (step_subcarrier a ≡ place_subcarrier b)))
+    → (b ≡ Ok (Some ((place_stream b), (place_subcarrier b)))) × ((step_stream a ≡ place_stream b) × (step_subcarrier a ≡ place_subcarrier b)))

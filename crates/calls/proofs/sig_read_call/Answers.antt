@@ -9,12 +9,12 @@ use borrow.Author.Rules.{rules}
 use Rattle.calls.proofs.sig_read_call.Goals as goal
 
 pub fields_number-requires : goal.fields_number-requires
-fields_number-requires c = read_fields_fit c.args.sig.now c.in-Fields.g (sym c.read.ensures ∙ c.in-Fields.is)
+fields_number-requires c = read_fields_fit c.args.sig.now c.in-Ok.g (sym c.read.ensures ∙ c.in-Ok.is)
 
-pub returns-in-Fields : goal.returns-in-Fields
-returns-in-Fields c = pos_is c.fields_number.result (omega (arith, c.fields_number.ensures.1))
+pub returns-in-Ok : goal.returns-in-Ok
+returns-in-Ok c = pos_is c.fields_number.result (omega (arith, c.fields_number.ensures.1))
     ∙ ap pos c.fields_number.ensures.0
-    ∙ ap read_result (sym c.in-Fields.is ∙ c.read.ensures)
+    ∙ ap read_result (sym c.in-Ok.is ∙ c.read.ensures)
 
-pub returns-in-Refused : goal.returns-in-Refused
-returns-in-Refused c = search rules ∙ c.refused.ensures ∙ ap read_result (sym c.in-Refused.is ∙ c.read.ensures)
+pub returns-in-Err : goal.returns-in-Err
+returns-in-Err c = search rules ∙ c.refused.ensures ∙ ap read_result (sym c.in-Err.is ∙ c.read.ensures)

@@ -4,14 +4,14 @@ use Rattle.conversions.specs.Results.{written_result}
 use borrow.Author.Rules.{rules}
 use Rattle.calls.proofs.sig_write_call.Goals as goal
 
-pub returns-in-Done : goal.returns-in-Done
-returns-in-Done c = record {
-  value = ap written_result (sym c.in-Done.is ∙ c.write.ensures.0);
+pub returns-in-Ok : goal.returns-in-Ok
+returns-in-Ok c = record {
+  value = ap written_result (sym c.in-Ok.is ∙ c.write.ensures.0);
   out_after = c.write.ensures.1;
 }
 
-pub returns-in-Refused : goal.returns-in-Refused
-returns-in-Refused c = record {
-  value = search rules ∙ c.refused.ensures ∙ ap written_result (sym c.in-Refused.is ∙ c.write.ensures.0);
+pub returns-in-Err : goal.returns-in-Err
+returns-in-Err c = record {
+  value = search rules ∙ c.refused.ensures ∙ ap written_result (sym c.in-Err.is ∙ c.write.ensures.0);
   out_after = c.write.ensures.1;
 }

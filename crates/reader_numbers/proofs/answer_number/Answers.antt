@@ -1,9 +1,13 @@
 -- `answer_number`: document 01's number of each answer.
-use mathlib.Core.Path.{◌∙◌, sym, ap, subst}
-use Prim.Native.Nat.{ℕ, ◌<◌}
+use Rattle.std.proofs.Common.{◌≡◌, ◌∙◌, sym, ap, subst, ℕ, ◌<◌, Err}
+use Rattle.acceptance.specs.declared.accept.StepRefusal.TheVariants.{Refused}
 use Rattle.reader.specs.Step.{step_number}
 use Rattle.conversions.proofs.Minus.{number_small}
 use Rattle.reader_numbers.proofs.answer_number.Goals as goal
 
-pub returns-in-Refused : goal.returns-in-Refused
-returns-in-Refused c = (c.number.ensures ∙ ap step_number (sym c.in-Refused.is), subst (λ (n : ℕ). n < 16) (sym c.number.ensures) (number_small c.in-Refused.r))
+pub returns-in-Err-Refused : goal.returns-in-Err-Refused
+returns-in-Err-Refused c =
+    let inner : c.in-Err-Refused.field-0 ≡ Refused c.in-Err-Refused.r = rw c.in-Err-Refused.is at c.in-Err-Refused.field-0-is in (
+      c.number.ensures ∙ ap step_number (sym (c.in-Err-Refused.is ∙ ap Err inner)),
+      subst (λ (n : ℕ). n < 16) (sym c.number.ensures) (number_small c.in-Err-Refused.r),
+    )

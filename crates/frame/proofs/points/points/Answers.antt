@@ -1,4 +1,5 @@
 -- `points` goes by the tests of its refusals; where none applies, the symbol is written.
+use Rattle.std.specs.Prelude.{Ok}
 use mathlib.Core.Path.{◌≡◌, ◌∙◌, sym, ap}
 use mathlib.Core.Bool.{Bool, false}
 use Prim.Native.Nat.{ℕ}
@@ -6,22 +7,20 @@ use lib.Dec.{ltb, leb}
 use lib.ListN.{length}
 use Rattle.settings.specs.Settings.{check_of}
 use Rattle.symbols.specs.Symbols.{symbols_of}
-use Rattle.settings.specs.declared.settings.Checked.TheVariants.{Accepted}
 use Rattle.frame.specs.Points.{floats_of}
-use Rattle.frame.specs.declared.points.PointsAnswer.TheVariants.{Written}
 use Rattle.frame.proofs.PointsLaws.{points_written}
 use Rattle.frame.proofs.points.points.Goals as goal
 
 pub returns : goal.returns
 returns c =
-    let accepted : check_of c.args.raw ≡ Accepted c.in-Accepted.s = sym c.check-checked.ensures ∙ c.in-Accepted.is in
-    let past_is : (b : Bool) → leb c.symbols_of.result c.args.symbol ≡ b → leb (symbols_of c.in-Accepted.s) c.args.symbol ≡ b = λ b e. ap (λ (k : ℕ). leb k c.args.symbol) (sym c.symbols_of.ensures) ∙ e in
-    let small_is : (b : Bool) → ltb (length c.args.out.now) c.floats_of-floats.result ≡ b → ltb (length c.args.out.now) (floats_of c.in-Accepted.s) ≡ b = λ b e. ap (λ (k : ℕ). ltb (length c.args.out.now) k) (sym c.floats_of-floats.ensures.0) ∙ e in
+    let accepted : check_of c.args.raw ≡ Ok c.in_ok-s.s = sym c.in_ok-s.ensures in
+    let past_is : (b : Bool) → leb c.symbols_of.result c.args.symbol ≡ b → leb (symbols_of c.in_ok-s.s) c.args.symbol ≡ b = λ b e. ap (λ (k : ℕ). leb k c.args.symbol) (sym c.symbols_of.ensures) ∙ e in
+    let small_is : (b : Bool) → ltb (length c.args.out.now) c.floats_of-floats.result ≡ b → ltb (length c.args.out.now) (floats_of c.in_ok-s.s) ≡ b = λ b e. ap (λ (k : ℕ). ltb (length c.args.out.now) k) (sym c.floats_of-floats.ensures.0) ∙ e in
     let a = c.args in
     let r =
-    points_written c.in-Accepted.s a.payload.now a.symbol a.out.now (check_of a.raw) _ (accepted)
+    points_written c.in_ok-s.s a.payload.now a.symbol a.out.now (check_of a.raw) _ (accepted)
     c.if-short.false-raw (past_is false c.if-past.false-raw) (small_is false c.if-small.false-raw) c.write_symbol.ensures in
     record {
-      value = ap Written c.floats_of-floats.ensures.0 ∙ r.0;
+      value = ap Ok c.floats_of-floats.ensures.0 ∙ r.0;
       out_after = r.1;
     }

@@ -1,9 +1,16 @@
 -- `read_into`: the symbols are read into bytes apart, and copied where all are accepted.
-use Prim.Native.Nat.{◌≤◌}
-use native.Mathlib.Omega.{arith}
-use lib.ListN.{length}
+use Rattle.std.proofs.Common.{◌≡◌, ◌∙◌, sym, ℕ, ◌≤◌, length, arith, Ok, Err, Result}
+use Rattle.std.proofs.lemmas.Result.{err_from_is_err_and}
+use Rattle.frame_steps.specs.declared.steps.FrameRefusal.{FrameRefusal}
 use Rattle.frame_reader.proofs.ApartLaws.{asked_right, size_holds, symbols_asked, left_refused, left_read}
+use Rattle.frame_reader.proofs.read.read_into.Goals.{Start}
 use Rattle.frame_reader.proofs.read.read_into.Goals as goal
+
+never : (e : FrameRefusal) (k : ℕ) → ◌≡◌ {A = Result ℕ FrameRefusal} (Err e) (Ok k) → ⊥
+never e k h = let z : ◌≡◌ {A = ℕ} 0 1 = cc in absurd (omega (arith, z))
+
+holds : (c : Start) → c.args.s.length ≤ length c.args.apart.now
+holds c = size_holds c.args.s c.args.reader c.args.points.now c.args.payload.now c.requires.0 _ c.requires.1
 
 pub symbols_of-requires : goal.symbols_of-requires
 symbols_of-requires c = asked_right c.args.s c.args.reader c.args.points.now c.args.payload.now c.requires.0
@@ -11,28 +18,27 @@ symbols_of-requires c = asked_right c.args.s c.args.reader c.args.points.now c.a
 pub floats_of-requires : goal.floats_of-requires
 floats_of-requires c = asked_right c.args.s c.args.reader c.args.points.now c.args.payload.now c.requires.0
 
-pub read_symbols-answer-requires : goal.read_symbols-answer-requires
-read_symbols-answer-requires c =
-    let holds : c.args.s.length ≤ length c.args.apart.now = size_holds c.args.s c.args.reader c.args.points.now c.args.payload.now c.requires.0 _ c.requires.1 in
-    symbols_asked c.args.s c.args.reader c.args.points.now c.args.payload.now c.requires.0
-    _ (omega (arith, holds, c.requires.0.whole_payload)) _ _ c.symbols_of.ensures c.floats_of.ensures.0
+pub read_symbols-requires : goal.read_symbols-requires
+read_symbols-requires c = symbols_asked c.args.s c.args.reader c.args.points.now c.args.payload.now c.requires.0
+    _ (omega (arith, holds (goal.at.read_symbols-requires c).Start, c.requires.0.whole_payload)) _ _ c.symbols_of.ensures c.floats_of.ensures.0
 
 pub copy_bytes-requires : goal.copy_bytes-requires
 copy_bytes-requires c =
-    let holds : c.args.s.length ≤ length c.args.apart.now = size_holds c.args.s c.args.reader c.args.points.now c.args.payload.now c.requires.0 _ c.requires.1 in
-    let kept = c.read_symbols-answer.auto.payload in
-    (omega (arith, kept, holds, c.requires.0.whole_payload), omega (arith, kept, holds, c.requires.0.whole_payload))
+    let fits = holds (goal.at.copy_bytes-requires c).Start in
+    let kept = c.read_symbols.auto.payload in
+    (omega (arith, kept, fits, c.requires.0.whole_payload), omega (arith, kept, fits, c.requires.0.whole_payload))
 
-pub returns-in-Read : goal.returns-in-Read
-returns-in-Read c =
-    let holds : c.args.s.length ≤ length c.args.apart.now = size_holds c.args.s c.args.reader c.args.points.now c.args.payload.now c.requires.0 _ c.requires.1 in
-    left_read c.args.s c.args.reader c.args.points.now c.args.payload.now c.requires.0
-    _ (omega (arith, holds, c.requires.0.whole_payload)) _ _ c.read_symbols-answer.ensures _ c.in-Read.is _
-    c.copy_bytes.ensures
+pub returns : goal.returns
+returns c =
+    let left = left_read c.args.s c.args.reader c.args.points.now c.args.payload.now c.requires.0
+    _ (omega (arith, holds (goal.at.returns c).Start, c.requires.0.whole_payload)) _ _ c.read_symbols.ensures _ c.in_ok-seed.was _
+    c.copy_bytes.ensures in
+    rw c.in_ok-seed.was at left
 
-pub returns-in_default : goal.returns-in_default
-returns-in_default c =
-    let holds : c.args.s.length ≤ length c.args.apart.now = size_holds c.args.s c.args.reader c.args.points.now c.args.payload.now c.requires.0 _ c.requires.1 in
-    left_refused c.args.s c.args.reader c.args.points.now c.args.payload.now c.requires.0
-    _ (omega (arith, holds, c.requires.0.whole_payload)) _ _ c.read_symbols-answer.ensures
-    c.in_default.not-Read
+pub returns-in_err-seed : goal.returns-in_err-seed
+returns-in_err-seed c =
+    let left = left_refused c.args.s c.args.reader c.args.points.now c.args.payload.now c.requires.0
+    _ (omega (arith, holds (goal.at.returns-in_err-seed c).Start, c.requires.0.whole_payload)) _ _ c.read_symbols.ensures
+    (λ k e. never _ k (sym c.in_err-seed.was ∙ e)) in
+    let passed = err_from_is_err_and c.from_residual.result c.from_residual.ensures.1 in
+    rw (passed.1, passed.2, ← c.in_err-seed.was) left

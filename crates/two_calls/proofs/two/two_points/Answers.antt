@@ -1,16 +1,17 @@
 -- `two_points`: demand 3 of the answers and slices that the two calls give.
+use Rattle.std.specs.Prelude.{Result}
+use Rattle.settings.specs.declared.settings.Refusal.{Refusal}
 use mathlib.Core.List.{List}
 use Prim.Native.Nat.{ℕ}
 use lib.Ieee.{Float}
 use Rattle.settings.specs.declared.settings.RawSettings.{RawSettings}
-use Rattle.frame.specs.declared.points.PointsAnswer.{PointsAnswer}
 use Rattle.demands.specs.Demand3.{SamePoints, LocalPoints, DifferingPoints, SeedPoints, OfPoints}
 use Rattle.demands.proofs.Demand3.{of_points, same_points, local_points, differing_points, seed_points}
 use Rattle.two_calls.proofs.two.two_points.Goals as goal
 
 pub returns : goal.returns
 returns c = let a = c.args in
-    let told : (Sentence : (a a' : RawSettings) (p q : List ℕ) (n : ℕ) (out out' : List Float) (r r' : PointsAnswer) (l l' : List Float) → Type 0) (term : OfPoints Sentence)
+    let told : (Sentence : (a a' : RawSettings) (p q : List ℕ) (n : ℕ) (out out' : List Float) (r r' : Result ℕ Refusal) (l l' : List Float) → Type 0) (term : OfPoints Sentence)
     → Sentence a.raw a.other_raw a.payload.now a.other_payload.now a.symbol a.out.now a.other_out.now _ _ _ _
     = λ Sentence term.
     of_points Sentence term a.raw a.other_raw a.payload.now a.other_payload.now a.symbol a.out.now a.other_out.now _ _ _ _
