@@ -1,6 +1,6 @@
 -- The strict reader's step from a symbol's inputs X on (document 01, refusal 11): its answer, the state that it returns, and the payload's bytes afterwards.
 use Rattle.acceptance.specs.declared.accept.StepRefusal.{StepRefusal}
-use Rattle.acceptance.specs.declared.accept.StepRefusal.TheVariants.{BadPoint, Refused as StepRefused}
+use Rattle.acceptance.specs.declared.accept.StepRefusal.TheVariants.{Refused as StepRefused}
 use Rattle.std.specs.Prelude.{Bool, cond, ◌&&◌, List, ◌++◌, ℕ, ◌+◌, ◌-◌, ◌/◌, eqb, ltb, take, drop, Err, None, Ok, Option, Result, Some}
 use Rattle.laws.specs.Firsts.{firsts}
 use Rattle.chain.specs.Scrambler.{state_at, seed_of}
@@ -58,10 +58,8 @@ bytes_into s st X payload = bytes_left s st.symbol st.part (plain_of st X) paylo
 
 -- a refusal writes nothing
 abbrev pub step_into_by : Result (Option ℕ) StepRefusal → (written : List ℕ) → List ℕ → List ℕ
-step_into_by (Ok (Some seed)) written payload = written
-step_into_by (Ok None) written payload = written
-step_into_by (Err (BadPoint i z)) written payload = payload
-step_into_by (Err (StepRefused r)) written payload = payload
+step_into_by (Ok seed) written payload = written
+step_into_by (Err r) written payload = payload
 
 -- the state after an accepted symbol that began at a scrambler's state; after the last symbol it is finished, its end marked
 abbrev pub moved_with : Settings → Reader → (histories : List ℕ) (scrambler part : ℕ) → Reader

@@ -20,7 +20,7 @@ pub fn count_call(raw: RawSettings) -> i64
     ensures { result ≡ count_result (count_of (check_of raw)) }
 {
     match count::symbol_count(raw) {
-        Ok(n) => n as i64,
+        Ok(symbols) => symbols as i64,
         Err(r) => refused(r),
     }
 }
@@ -41,7 +41,7 @@ pub fn sig_read_call(sig: &[u8]) -> i64
     ensures { result ≡ read_result (read_of sig.now) }
 {
     match ht_sig::read(sig) {
-        Ok(g) => fields_number(g) as i64,
+        Ok(fields) => fields_number(fields) as i64,
         Err(r) => refused(r),
     }
 }
@@ -52,7 +52,7 @@ pub fn points_call(raw: RawSettings, payload: &[u8], symbol: u64, out: &mut [f32
     ensures out_after { out.new ≡ points_into (check_of raw) payload.now symbol out.old }
 {
     match points::points(raw, payload, symbol, out) {
-        Ok(n) => n as i64,
+        Ok(floats) => floats as i64,
         Err(r) => refused(r),
     }
 }

@@ -61,9 +61,7 @@ read_frame_of o points bytes = read_frame_by (check_of (open_raw o)) o points by
 -- the lent payload afterwards: what the steps leave in it where every symbol is accepted, and on a refusal as it was
 abbrev pub frame_into_by : Result ℕ FrameRefusal → (read : List ℕ) → List ℕ → List ℕ
 frame_into_by (Ok seed) read payload = read
-frame_into_by (Err (BadPointAt n i z)) read payload = payload
-frame_into_by (Err (BadSymbol n r)) read payload = payload
-frame_into_by (Err (FrameRefused r)) read payload = payload
+frame_into_by (Err r) read payload = payload
 
 abbrev pub read_frame_into : OpenSettings → (points : List Float) (payload : List ℕ) → List ℕ
 read_frame_into o points payload =
@@ -78,9 +76,7 @@ frame_number (Err (FrameRefused r)) = number_of r
 
 abbrev pub frame_seed : Result ℕ FrameRefusal → ℕ
 frame_seed (Ok seed) = seed
-frame_seed (Err (BadPointAt n i z)) = 0
-frame_seed (Err (BadSymbol n r)) = 0
-frame_seed (Err (FrameRefused r)) = 0
+frame_seed (Err r) = 0
 
 abbrev pub frame_symbol : Result ℕ FrameRefusal → ℕ
 frame_symbol (Ok seed) = 0

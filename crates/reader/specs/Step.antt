@@ -65,25 +65,21 @@ step_into st points payload =
 
 -- document 01's number of each case, 0 where the symbol is accepted; the seed and the place of each
 abbrev pub step_number : Result (Option ℕ) StepRefusal → ℕ
-step_number (Ok (Some seed)) = 0
-step_number (Ok None) = 0
+step_number (Ok seed) = 0
 step_number (Err (BadPoint i z)) = 9
 step_number (Err (StepRefused r)) = number_of r
 
 abbrev pub step_seed : Result (Option ℕ) StepRefusal → ℕ
 step_seed (Ok (Some seed)) = seed
 step_seed (Ok None) = 0
-step_seed (Err (BadPoint i z)) = 0
-step_seed (Err (StepRefused r)) = 0
+step_seed (Err r) = 0
 
 abbrev pub step_stream : Result (Option ℕ) StepRefusal → ℕ
-step_stream (Ok (Some seed)) = 0
-step_stream (Ok None) = 0
+step_stream (Ok seed) = 0
 step_stream (Err (BadPoint i z)) = i
 step_stream (Err (StepRefused r)) = 0
 
 abbrev pub step_subcarrier : Result (Option ℕ) StepRefusal → ℤ
-step_subcarrier (Ok (Some seed)) = pos 0
-step_subcarrier (Ok None) = pos 0
+step_subcarrier (Ok seed) = pos 0
 step_subcarrier (Err (BadPoint i z)) = z
 step_subcarrier (Err (StepRefused r)) = pos 0

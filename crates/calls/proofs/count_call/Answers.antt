@@ -8,11 +8,11 @@ use borrow.Author.Rules.{rules}
 use Rattle.calls.proofs.count_call.Goals as goal
 
 pub overflow_cast-result : goal.overflow_cast-result
-overflow_cast-result c = pos_fits c.in-Ok.n (omega (arith, count_few c.args.raw c.in-Ok.n (sym c.symbol_count.ensures ∙ c.in-Ok.is)))
+overflow_cast-result c = pos_fits c.in-Ok.symbols (omega (arith, count_few c.args.raw c.in-Ok.symbols (sym c.symbol_count.ensures ∙ c.in-Ok.is)))
 
 pub returns-in-Ok : goal.returns-in-Ok
 returns-in-Ok c = let e = sym c.in-Ok.is ∙ c.symbol_count.ensures in
-    pos_is c.in-Ok.n (omega (arith, count_few c.args.raw c.in-Ok.n (sym e))) ∙ ap count_result e
+    pos_is c.in-Ok.symbols (omega (arith, count_few c.args.raw c.in-Ok.symbols (sym e))) ∙ ap count_result e
 
 pub returns-in-Err : goal.returns-in-Err
 returns-in-Err c = search rules ∙ c.refused.ensures ∙ ap count_result (sym c.in-Err.is ∙ c.symbol_count.ensures)

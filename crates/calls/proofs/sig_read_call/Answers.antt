@@ -9,7 +9,7 @@ use borrow.Author.Rules.{rules}
 use Rattle.calls.proofs.sig_read_call.Goals as goal
 
 pub fields_number-requires : goal.fields_number-requires
-fields_number-requires c = read_fields_fit c.args.sig.now c.in-Ok.g (sym c.read.ensures ∙ c.in-Ok.is)
+fields_number-requires c = read_fields_fit c.args.sig.now c.in-Ok.fields (sym c.read.ensures ∙ c.in-Ok.is)
 
 pub returns-in-Ok : goal.returns-in-Ok
 returns-in-Ok c = pos_is c.fields_number.result (omega (arith, c.fields_number.ensures.1))
