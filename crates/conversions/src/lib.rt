@@ -8,7 +8,6 @@ ghost use Rattle.conversions.specs.Results.{raw_of, refused_result, fields_numbe
 
 use query::query::Carried;
 use settings::settings::{RawSettings, Refusal, number};
-use sig_words::words;
 use sig_words::words::SigFields;
 
 // The settings of a call: a flag is off at 0 and on at any other number.
@@ -38,24 +37,10 @@ pub fn raw_settings(
     }
 }
 
-// A byte as a part of a number.
-pub fn byte_number(x: u8) -> u64
-    ensures { (result ≡ x) × (result < 256) }
-{
-    x as u64
-}
-
-fn negated(n: u64) -> i64
-    requires { n < 16 }
-    ensures { result ≡ minus n }
-{
-    0 - (n as i64)
-}
-
 pub fn refused(r: Refusal) -> i64
     ensures { result ≡ refused_result r }
 {
-    negated(number(r))
+    -(number(r) as i64)
 }
 
 // The fields as one number.
@@ -63,12 +48,11 @@ pub fn fields_number(g: SigFields) -> u64
     requires { SigFits g }
     ensures { (result ≡ fields_number g) × (result < 268435456) }
 {
-    let wide = g.width == 40;
-    let flags = words::one(g.smoothing)
-        + 2 * words::one(g.not_sounding)
-        + 4 * words::one(g.aggregation)
-        + 8 * words::one(g.short_guard);
-    g.mcs + 128 * words::one(wide) + 256 * g.length + 16777216 * flags
+    let flags = u64::from(g.smoothing)
+        + 2 * u64::from(g.not_sounding)
+        + 4 * u64::from(g.aggregation)
+        + 8 * u64::from(g.short_guard);
+    g.mcs + 128 * u64::from(g.width == 40) + 256 * g.length + 16777216 * flags
 }
 
 // Puts what a subcarrier carries into the lent floats: 0 for nothing, 1 for a pilot's sign, 2 for a data point.

@@ -8,7 +8,7 @@ ghost use Rattle.frame_reader.specs.Asked.{FrameLeft};
 
 use frame::points::floats_of;
 use frame_steps::steps::{FrameRefusal, read_symbols};
-use reader_state::state::{OpenSettings, Reader, raw_of, start};
+use reader_state::state::{OpenSettings, Reader, start};
 use settings::settings::{Refusal, Settings, check};
 use symbols::count::symbols_of;
 
@@ -58,7 +58,7 @@ pub fn read_frame(o: OpenSettings, points: &[f32], payload: &mut [u8]) -> Result
     ensures left { payload.new ≡ read_frame_into o points.now payload.old }
     ensures exactly { ReadsFrame o points.now result payload.old payload.new }
 {
-    let s = check(raw_of(o))?;
+    let s = check(o.into())?;
     let small = (points.len() < symbols_of(s) as usize * floats_of(s))
         | (payload.len() < s.length as usize);
     if small {

@@ -13,7 +13,7 @@ use chain::plan::{MOST_CODED, MOST_DATA};
 use decoder::forced::symbol_inputs;
 use detector::search::symbol_bits;
 use frame::points::floats_of;
-use reader_state::state::{Reader, ended, is_closed, raw_of};
+use reader_state::state::{Reader, ended, is_closed};
 use settings::settings::{Refusal, Settings, check, plan_of};
 use subcarriers::layout::subcarrier_of;
 
@@ -75,7 +75,7 @@ pub fn step(reader: Reader, points: &[f32], payload: &mut [u8]) -> Stepped
     ensures value { result ≡ step_of reader points.now (length payload.old) }
     ensures payload_after { payload.new ≡ step_into reader points.now payload.old }
 {
-    let Ok(s) = check(raw_of(reader.settings)) else {
+    let Ok(s) = check(reader.settings.into()) else {
         return refused(reader, Refusal::Closed);
     };
     if is_closed(reader, s) {

@@ -7,10 +7,9 @@ ghost use Rattle.reader.specs.Step.{step_number, step_seed};
 ghost use Rattle.reader_numbers.specs.Numbers.{open_of, state_number, reader_of, stepped_number, placed_result, PlaceRight};
 
 use acceptance::accept::{StepRefusal, Stepped};
-use conversions::{byte_number, refused};
+use conversions::refused;
 use reader_state::state::{OpenSettings, Reader};
 use settings::settings::{Refusal, number};
-use sig_words::words::one;
 use subcarriers::layout::index;
 
 // The settings of a call: a flag is off at 0 and on at any other number.
@@ -43,12 +42,11 @@ pub fn state_number(reader: Reader) -> u64
     requires { reader.symbol < 65536 }
     ensures { (result ≡ state_number reader) × (result < 562949953421312) }
 {
-    let first = byte_number(reader.histories[0]);
-    let second = byte_number(reader.histories[1]);
-    let low = reader.symbol + 65536 * first + 16777216 * second;
-    low + 4294967296 * byte_number(reader.scrambler)
-        + 1099511627776 * byte_number(reader.part)
-        + 281474976710656 * one(reader.ended)
+    let [first, second] = reader.histories;
+    let low = reader.symbol + 65536 * u64::from(first) + 16777216 * u64::from(second);
+    low + 4294967296 * u64::from(reader.scrambler)
+        + 1099511627776 * u64::from(reader.part)
+        + 281474976710656 * u64::from(reader.ended)
 }
 
 // The state that a number is.
@@ -99,7 +97,7 @@ fn found_number(stream: u8, subcarrier: i32) -> u64
     requires { Inside 40 subcarrier }
     ensures { (pos result ≡ pos (256 * stream) +ℤ (subcarrier +ℤ pos 128)) × (result < 65536) }
 {
-    256 * byte_number(stream) + (index(subcarrier) as u64 + 64)
+    256 * u64::from(stream) + (index(subcarrier) as u64 + 64)
 }
 
 // The place of a point, 65,535 where there is none, or the refusal's number negated.

@@ -5,7 +5,7 @@ ghost use Rattle.reader_place.specs.Place.{place_of};
 use chain::plan::MOST_CODED;
 use detector::search::symbol_bits;
 use frame::points::floats_of;
-use reader_state::state::{Reader, is_closed, raw_of};
+use reader_state::state::{Reader, is_closed};
 use settings::settings::{Refusal, check, plan_of};
 use subcarriers::layout::subcarrier_of;
 
@@ -13,7 +13,7 @@ use subcarriers::layout::subcarrier_of;
 pub fn place(reader: Reader, points: &[f32]) -> Result<Option<(u8, i32)>, Refusal>
     ensures { result ≡ place_of reader points.now }
 {
-    let Ok(s) = check(raw_of(reader.settings)) else {
+    let Ok(s) = check(reader.settings.into()) else {
         return Err(Refusal::Closed);
     };
     if is_closed(reader, s) {

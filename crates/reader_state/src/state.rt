@@ -43,19 +43,22 @@ pub struct Started {
     pub state: Reader,
 }
 
-pub fn raw_of(o: OpenSettings) -> RawSettings
-    ensures { result ≡ open_raw o }
-{
-    RawSettings {
-        width: o.width,
-        mcs: o.mcs,
-        format: o.format,
-        length: o.length,
-        seed: 1,
-        smoothing: o.smoothing,
-        not_sounding: o.not_sounding,
-        aggregation: o.aggregation,
-        short_guard: o.short_guard,
+// With seed 1, so that only a refusal of the others can come.
+impl From<OpenSettings> for RawSettings {
+    ghost from_gives = { λ o raw. raw ≡ open_raw o };
+
+    fn from(o: OpenSettings) -> RawSettings {
+        RawSettings {
+            width: o.width,
+            mcs: o.mcs,
+            format: o.format,
+            length: o.length,
+            seed: 1,
+            smoothing: o.smoothing,
+            not_sounding: o.not_sounding,
+            aggregation: o.aggregation,
+            short_guard: o.short_guard,
+        }
     }
 }
 
@@ -77,7 +80,7 @@ fn blank(o: OpenSettings, ended: bool) -> Reader
 pub fn start(o: OpenSettings) -> Started
     ensures { result ≡ start_of o }
 {
-    match check(raw_of(o)) {
+    match check(o.into()) {
         Ok(_) => Started {
             answer: Ok(()),
             state: blank(o, false),
@@ -102,12 +105,7 @@ fn power(r: usize) -> u8
 fn bad_histories(histories: [u8; 2]) -> bool
     ensures { result ≡ bad_histories histories }
 {
-    for j in 0..2 {
-        if histories[j] >= 64 {
-            return true;
-        }
-    }
-    false
+    histories.iter().any(|&h| h >= 64)
 }
 
 // From symbol 1 on a scrambler is 1 to 127.
@@ -136,8 +134,7 @@ pub fn is_closed(reader: Reader, s: Settings) -> bool
     if past {
         return true;
     }
-    let histories = reader.histories;
-    bad_histories(histories)
+    bad_histories(reader.histories)
         | (bad_scrambler(reader.symbol, reader.scrambler) | bad_part(s, reader.symbol, reader.part))
 }
 
@@ -145,7 +142,8 @@ pub fn is_closed(reader: Reader, s: Settings) -> bool
 pub fn ended(reader: Reader) -> Reader
     ensures { result ≡ ended_of reader }
 {
-    let mut e = reader;
-    e.ended = true;
-    e
+    Reader {
+        ended: true,
+        ..reader
+    }
 }

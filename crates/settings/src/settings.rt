@@ -7,23 +7,23 @@ ghost use Rattle.settings.specs.Settings.{number_of, check_of, encoders_of, plan
 use chain::plan;
 use chain::plan::Plan;
 
-// The refusals of document 01's table, in its order.
-#[derive(Clone, Copy)]
+// The refusals of document 01's table, each with its number.
+#[derive(Clone, Copy, PartialEq, Eq)]
 pub enum Refusal {
-    Width,
-    Mcs,
-    Format,
-    Length,
-    Seed,
-    Source,
-    Place,
-    Room,
-    Point,
-    Code,
-    Frame,
-    Closed,
-    SigCrc,
-    SigForm,
+    Width = 1,
+    Mcs = 2,
+    Format = 3,
+    Length = 4,
+    Seed = 5,
+    Source = 6,
+    Place = 7,
+    Room = 8,
+    Point = 9,
+    Code = 10,
+    Frame = 11,
+    Closed = 12,
+    SigCrc = 13,
+    SigForm = 14,
 }
 
 // The settings as a caller passes them, as wide as any caller has them: nothing is narrowed before it is tested.
@@ -59,22 +59,7 @@ pub struct Settings {
 pub fn number(r: Refusal) -> u64
     ensures { result ≡ number_of r }
 {
-    match r {
-        Refusal::Width => 1,
-        Refusal::Mcs => 2,
-        Refusal::Format => 3,
-        Refusal::Length => 4,
-        Refusal::Seed => 5,
-        Refusal::Source => 6,
-        Refusal::Place => 7,
-        Refusal::Room => 8,
-        Refusal::Point => 9,
-        Refusal::Code => 10,
-        Refusal::Frame => 11,
-        Refusal::Closed => 12,
-        Refusal::SigCrc => 13,
-        Refusal::SigForm => 14,
-    }
+    r as u64
 }
 
 // The tests of refusals 1 to 5, each over all settings, in the table's order.

@@ -10,7 +10,7 @@ use Rattle.frame_reader.proofs.read.read_frame.Goals.{In_ok-s}
 use Rattle.frame_reader.proofs.read.read_frame.Goals as goal
 
 settings : (c : In_ok-s) → Ok c.in_ok-s.s ≡ check_of (open_raw c.args.o)
-settings c = c.in_ok-s.ensures ∙ ap check_of c.raw_of.ensures
+settings c = c.in_ok-s.ensures ∙ ap check_of c.into.ensures
 
 settings_right : (c : In_ok-s) → Right c.in_ok-s.s
 settings_right c = right (open_raw c.args.o) c.in_ok-s.s (sym (settings c))
@@ -18,7 +18,7 @@ settings_right c = right (open_raw c.args.o) c.in_ok-s.s (sym (settings c))
 pub returns-in_err-s : goal.returns-in_err-s
 returns-in_err-s c =
     let passed = err_from_is_err_and c.from_residual.result c.from_residual.ensures.1 in
-    let told = frame_as c.args.o c.args.points.now c.args.payload.now _ (c.in_err-s.ensures ∙ ap check_of c.raw_of.ensures) _ _ refl refl in
+    let told = frame_as c.args.o c.args.points.now c.args.payload.now _ (c.in_err-s.ensures ∙ ap check_of c.into.ensures) _ _ refl refl in
     rw (passed.1, passed.2) (record { answered = told.0; left = told.1.0; exactly = told.1.1 })
 
 pub symbols_of-requires : goal.symbols_of-requires

@@ -8,7 +8,7 @@ use Rattle.reader.proofs.step.step.Goals.{In-Ok, Else-is_closed}
 use Rattle.reader.proofs.step.step.Goals as goal
 
 settings : (c : In-Ok) → Ok c.in-Ok.s ≡ check_of (open_raw c.args.reader.settings)
-settings c = sym c.in-Ok.is ∙ c.check.ensures ∙ ap check_of c.raw_of.ensures
+settings c = sym c.in-Ok.is ∙ c.check.ensures ∙ ap check_of c.into.ensures
 
 settings_right : (c : In-Ok) → Right c.in-Ok.s
 settings_right c = open_right c.args.reader c.in-Ok.s (settings c)
@@ -19,7 +19,7 @@ going c = sym c.if-is_closed.false ∙ c.is_closed.ensures
 pub returns-in_default : goal.returns-in_default
 returns-in_default c =
     let told = step_as c.args.reader c.args.points.now c.args.payload.now _
-    (sym c.in_default.is ∙ c.check.ensures ∙ ap check_of c.raw_of.ensures) _ _ refl refl in
+    (sym c.in_default.is ∙ c.check.ensures ∙ ap check_of c.into.ensures) _ _ refl refl in
     record { value = c.refused.ensures ∙ told.0; payload_after = told.1 }
 
 pub is_closed-requires : goal.is_closed-requires

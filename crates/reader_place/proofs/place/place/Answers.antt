@@ -12,7 +12,7 @@ use Rattle.reader_place.proofs.place.place.Goals.{In-Ok, Else-is_closed, After-s
 use Rattle.reader_place.proofs.place.place.Goals as goal
 
 settings : (c : In-Ok) → Ok c.in-Ok.s ≡ check_of (open_raw c.args.reader.settings)
-settings c = sym c.in-Ok.is ∙ c.check.ensures ∙ ap check_of c.raw_of.ensures
+settings c = sym c.in-Ok.is ∙ c.check.ensures ∙ ap check_of c.into.ensures
 
 settings_right : (c : In-Ok) → Right c.in-Ok.s
 settings_right c = open_right c.args.reader c.in-Ok.s (settings c)
@@ -26,7 +26,7 @@ searched c = search_by c.in-Ok.s c.args.reader c.plan_of.result c.plan_of.ensure
 
 pub returns-in_default : goal.returns-in_default
 returns-in_default c =
-    place_as c.args.reader c.args.points.now _ (sym c.in_default.is ∙ c.check.ensures ∙ ap check_of c.raw_of.ensures) _ refl
+    place_as c.args.reader c.args.points.now _ (sym c.in_default.is ∙ c.check.ensures ∙ ap check_of c.into.ensures) _ refl
 
 pub is_closed-requires : goal.is_closed-requires
 is_closed-requires c = settings_right (goal.at.is_closed-requires c).In-Ok
