@@ -8,6 +8,9 @@ use native.Mathlib.Omega.{arith}
 use lib.ListN.{length, get_or, set, length-set}
 use lib.Seq.{get_or-set_same, get_or-set_other}
 use borrow.Author.Count.{below_more}
+use Rattle.std.proofs.Common.{rules}
+use Rattle.std.proofs.lemmas.List.{places}
+use borrow.Rule.Slice.PartMut.{put_mid}
 use Rattle.laws.specs.Filled.{Filled}
 use Rattle.laws.proofs.Search.{lt_or_le}
 
@@ -56,6 +59,16 @@ fill_join z a f n m d₀ d d' p q = record {
       (lt_or_le i n);
   before = λ i l. q.before i (omega arith) ∙ p.before i l;
   after = λ i l. q.after i (omega arith) ∙ p.after i (omega arith);
+}
+
+-- a part written over by itself, as `copy_from_slice`, `fill` and a call that is lent the part do
+pub fill_part : {A : Type 0} (z : A) (a : ℕ) (f : ℕ → A) (n k : ℕ) (d₀ ys : List A) → a + k ≤ length d₀ → length ys ≡ k → n ≡ k
+    → ((i : ℕ) → i < n → get_or ys i z ≡ f i) → Filled z a f n d₀ (put_mid a k d₀ ys)
+fill_part z a f n k d₀ ys room sized e g = record {
+  same = search (rules, places);
+  done = λ i l. search (rules, places) ∙ g i l;
+  before = λ i l. search (rules, places);
+  after = λ i l. search (rules, places);
 }
 
 -- elements are small where the function's values are
