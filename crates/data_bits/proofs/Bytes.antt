@@ -6,7 +6,7 @@ use Rattle.std.proofs.lemmas.List.Edits.{length-between, get_or-between}
 use borrow.Rule.Slice.PartMut.{put_mid}
 use Rattle.laws.specs.Test.{both_left, both_right, every}
 use Rattle.laws.specs.Filled.{Filled}
-use Rattle.laws.proofs.Filling.{fill_at, fill_part}
+use Rattle.laws.proofs.Filling.{fill_as, fill_end, fill_lent}
 use Rattle.laws.proofs.Search.{parts}
 use Rattle.chain.specs.DataBits.{payload_bit}
 use Rattle.chain.proofs.InputLaws.{payload_bit_lem, ranges, data_service, data_payload, data_zero}
@@ -37,9 +37,9 @@ pub part_put : (payload raw₀ ys : List ℕ) (p q low high : ℕ) → low ≤ h
     → Filled 0 (8 * low) (λ k. payload_bit payload (8 * p + k)) (8 * (high - low)) raw₀ (put_mid (8 * low) (8 * high - 8 * low) raw₀ ys)
 part_put payload raw₀ ys p q low high o e whole room put =
     let sized = length-between payload p q whole in
-    fill_part 0 (8 * low) _ (8 * (high - low)) (8 * high - 8 * low) raw₀ ys (omega arith)
-    (omega (arith, put.same, length-between raw₀ (8 * low) (8 * high) room)) (omega arith)
-    (λ k h. fill_at 0 _ put k (omega arith) ∙ part_bit payload p q k (omega arith))
+    fill_as 0 (8 * low) _ _ _ raw₀ _ (λ k h. part_bit payload p q k (omega arith))
+    (fill_lent 0 (8 * low) _ _ (8 * high - 8 * low) raw₀ (omega arith) (omega arith)
+    (fill_end 0 0 _ (omega (arith, length-between raw₀ (8 * low) (8 * high) room)) put))
 
 -- bit j from byte `from` on by its number in the payload
 place : (from low j : ℕ) → 2 ≤ from + low → 8 * low ≤ j → 8 * (from + low - 2) + (j - 8 * low) ≡ 8 * from + j - 16

@@ -1,5 +1,6 @@
 // The data bits before scrambling.
-ghost use Rattle.std.specs.Prelude.{◌≡◌, ◌+◌, ◌-◌, ◌*◌, ◌/◌, ◌%◌, ◌≤◌, ◌^◌, min, length};
+ghost use Rattle.std.specs.Prelude.{◌≡◌, ◌+◌, ◌-◌, ◌*◌, ◌/◌, ◌%◌, ◌≤◌, ◌^◌, min, length, get_or};
+ghost use Rattle.std.specs.Int.Bits.{bit_xor};
 ghost use Rattle.laws.specs.Filled.{Filled};
 ghost use Rattle.chain.specs.DataBits.{payload_bit};
 ghost use Rattle.data_bits.specs.Asked.{DataAsked, DataFilled};
@@ -21,6 +22,16 @@ fn put_bytes(raw: &mut [u8], bytes: &[u8])
 {
     for (m, &byte) in bytes.iter().enumerate() {
         put_byte(raw, 8 * m, byte);
+    }
+}
+
+// Bits, and on each of them another.
+pub fn add_bits(sums: &mut [u8], bits: &[u8], others: &[u8])
+    requires { (length sums.old ≤ length bits.now) × (length sums.old ≤ length others.now) }
+    ensures { Filled 0 0 (λ t. bit_xor (get_or bits.now t 0) (get_or others.now t 0)) (length sums.old) sums.old sums.new }
+{
+    for t in 0..sums.len() {
+        sums[t] = bits[t] ^ others[t];
     }
 }
 

@@ -8,9 +8,9 @@ use native.Mathlib.Omega.{arith}
 use lib.ListN.{length, get_or, set, length-set}
 use lib.Seq.{get_or-set_same, get_or-set_other}
 use borrow.Author.Count.{below_more}
-use Rattle.std.proofs.Common.{rules}
-use Rattle.std.proofs.lemmas.List.{places}
-use borrow.Rule.Slice.PartMut.{put_mid}
+use Rattle.std.proofs.Common.{rules, replicate, length-take, length-drop}
+use Rattle.std.proofs.lemmas.List.{places, get_or-replicate}
+use borrow.Rule.Slice.PartMut.{mid_of, put_mid}
 use Rattle.laws.specs.Filled.{Filled}
 use Rattle.laws.proofs.Search.{lt_or_le}
 
@@ -70,6 +70,21 @@ fill_part z a f n k d₀ ys room sized e g = record {
   before = λ i l. search (rules, places);
   after = λ i l. search (rules, places);
 }
+
+-- a part that a call was lent and filled
+pub fill_lent : {A : Type 0} (z : A) (a : ℕ) (f : ℕ → A) (n k : ℕ) (d₀ : List A) {ys : List A} → a + k ≤ length d₀ → n ≡ k
+    → Filled z 0 f (length (mid_of a k d₀)) (mid_of a k d₀) ys → Filled z a f n d₀ (put_mid a k d₀ ys)
+fill_lent z a f n k d₀ {ys = ys} room e p =
+    let sized : length (mid_of a k d₀) ≡ k = simp (length-take, length-drop) (omega arith) in
+    fill_part z a f n k d₀ ys room (p.same ∙ sized) e (λ i l. fill_at z f p i (omega arith))
+
+-- a part that `fill` writes over
+pub fill_same : {A : Type 0} (z : A) (a : ℕ) (v : A) (n k : ℕ) (d₀ ys : List A) → a + k ≤ length d₀ → n ≡ k
+    → ys ≡ replicate (length (mid_of a k d₀)) v → Filled z a (λ i. v) n d₀ (put_mid a k d₀ ys)
+fill_same z a v n k d₀ ys room e same =
+    let sized : length (mid_of a k d₀) ≡ k = simp (length-take, length-drop) (omega arith) in
+    rw (same, sized) (fill_part z a (λ i. v) n k d₀ (replicate k v) room (search (rules, places)) e
+    (λ i l. get_or-replicate k i v z (omega arith)))
 
 -- elements are small where the function's values are
 pub fill_small : {f : ℕ → ℕ} {n bound : ℕ} {d₀ d : List ℕ} → Filled 0 0 f n d₀ d → ((i : ℕ) → f i < bound) → (i : ℕ) → i < n → get_or d i 0 < bound
