@@ -10,6 +10,8 @@ use lib.Seq.{get_or-set_same, get_or-set_other}
 use borrow.Author.Count.{below_more}
 use Rattle.std.proofs.Common.{rules, replicate, length-take, length-drop}
 use Rattle.std.proofs.lemmas.List.{places, get_or-replicate}
+use Rattle.std.specs.List.{between}
+use Rattle.std.proofs.lemmas.List.Edits.{length-between, get_or-between}
 use borrow.Rule.Slice.PartMut.{mid_of, put_mid}
 use Rattle.laws.specs.Filled.{Filled}
 use Rattle.laws.proofs.Search.{lt_or_le}
@@ -85,6 +87,13 @@ fill_same z a v n k d₀ ys room e same =
     let sized : length (mid_of a k d₀) ≡ k = simp (length-take, length-drop) (omega arith) in
     rw (same, sized) (fill_part z a (λ i. v) n k d₀ (replicate k v) room (search (rules, places)) e
     (λ i l. get_or-replicate k i v z (omega arith)))
+
+-- a part that `copy_from_slice` writes over with a part of another list
+pub fill_copied : {A : Type 0} (z : A) (a : ℕ) (xs : List A) (from to n k : ℕ) (d₀ ys : List A) → a + k ≤ length d₀ → n ≡ k → from + n ≡ to
+    → to ≤ length xs → ys ≡ between from to xs → Filled z a (λ i. get_or xs (from + i) z) n d₀ (put_mid a k d₀ ys)
+fill_copied z a xs from to n k d₀ ys room e g whole same =
+    rw same (fill_part z a (λ i. get_or xs (from + i) z) n k d₀ (between from to xs) room (omega (arith, length-between xs from to whole)) e
+    (λ i l. get_or-between xs from to i z (omega arith)))
 
 -- elements are small where the function's values are
 pub fill_small : {f : ℕ → ℕ} {n bound : ℕ} {d₀ d : List ℕ} → Filled 0 0 f n d₀ d → ((i : ℕ) → f i < bound) → (i : ℕ) → i < n → get_or d i 0 < bound
