@@ -1,9 +1,7 @@
 -- Bits and the number that they write.
-use mathlib.Core.Path.{◌≡◌, ◌∙◌, refl, sym, ap, ap₂}
-use mathlib.Core.Logic.{⊎_elim}
-use Prim.Native.Nat.{ℕ, zero, suc, ◌+◌, ◌-◌, ◌*◌, ◌/◌, ◌%◌, ◌^◌, ◌<◌, ◌≤◌}
-use native.Mathlib.Nat.{not-suc-le-zero, eq-or-lt_of_le, le_of_suc-le-suc, mul_comm, mul_assoc, mul-zero, pow-suc, pow-zero, mul-le-mul_left, mul-one, add-suc, add-zero, add-mul-div_left}
-use native.Mathlib.Omega.{arith}
+use Rattle.std.proofs.Common.{◌≡◌, ◌∙◌, refl, sym, ap, ap₂, ⊎_elim, ℕ, zero, suc, ◌+◌, ◌-◌, ◌*◌, ◌/◌, ◌%◌, ◌^◌, ◌<◌, ◌≤◌, add-one, arith}
+use Rattle.std.proofs.Math.Nat.{not-suc-le-zero, eq-or-lt_of_le, le_of_suc-le-suc, mul_comm, mul_assoc, mul-zero, pow-suc, pow-zero, mul-le-mul_left, mul-one, add-suc, add-zero, add-mul-div_left, mod-eq_of_lt}
+use Rattle.std.proofs.lemmas.Nat.{pow_pos, pow_below}
 use Rattle.laws.proofs.Radix.{quot_of}
 use Rattle.assembler.specs.Assembled.{bits_number}
 
@@ -26,10 +24,6 @@ packed_rest f a r (suc s) l z =
     (λ (e : r ≡ suc s). ap (bits_number f a) (sym e))
     (λ (h : r < suc s). rw (z s (omega arith), mul-zero (2 ^ s), add-zero (bits_number f a s)) (packed_rest f a r s (omega arith) z))
     (eq-or-lt_of_le l)
-
-pow_pos : (r : ℕ) → 0 < 2 ^ r
-pow_pos zero = rw pow-zero (omega arith)
-pow_pos (suc r) = rw pow-suc (omega (arith, pow_pos r))
 
 pow_split : (k m : ℕ) → 2 ^ (k + suc m) ≡ 2 ^ k * (2 * 2 ^ m)
 pow_split k zero = rw (add-suc, add-zero, pow-suc)
@@ -66,9 +60,20 @@ module _ (f : ℕ → ℕ) (a : ℕ) where
       ap (λ (z : ℕ). (bits_number f a r + 2 ^ z * f (a + r)) / 2 ^ k % 2) e ∙ higher (bits_number f a r) k (r - suc k) (f (a + r)) ∙ packed_bit r (λ k m. b k (omega arith)) k h)
       (eq-or-lt_of_le (le_of_suc-le-suc l))
 
--- eight bits by two nibbles
-pub packed_eight : (f : ℕ → ℕ) (a low high : ℕ)
-    → low ≡ f a + 2 * f (a + 1) + 4 * f (a + 2) + 8 * f (a + 3) → high ≡ f (a + 4) + 2 * f (a + 5) + 4 * f (a + 6) + 8 * f (a + 7)
-    → low + 16 * high ≡ bits_number f a 8
+pub packed_none : (f : ℕ → ℕ) (a : ℕ) → bits_number f a 0 ≡ 0
 unfolding bits_number
-packed_eight f a low high l h = omega (arith, ap f (add-zero a))
+packed_none f a = refl
+
+-- a bit moved up k places in a byte
+moved_up : (x k : ℕ) → x < 2 → k < 8 → x * 2 ^ k % 256 ≡ 2 ^ k * x
+moved_up x k b h =
+    let l : 2 ^ k * x ≤ 2 ^ k * 1 = mul-le-mul_left (2 ^ k) (le_of_suc-le-suc b) in
+    rw (mul_comm x (2 ^ k)) (mod-eq_of_lt (omega (arith, rw mul-one at l, pow_below k 8 h)))
+
+-- one bit more of eight
+pub packed_more : (f : ℕ → ℕ) (a k byte : ℕ) → k < 8 → f (a + k) < 2 → byte ≡ bits_number f a k → byte < 2 ^ k
+    → (byte + f (a + k) * 2 ^ k % 256 ≡ bits_number f a (k + 1)) × (byte + f (a + k) * 2 ^ k % 256 < 2 ^ (k + 1))
+unfolding bits_number
+packed_more f a k byte h b e l =
+    let m : 2 ^ k * f (a + k) ≤ 2 ^ k * 1 = mul-le-mul_left (2 ^ k) (le_of_suc-le-suc b) in
+    (rw (moved_up (f (a + k)) k b h, e, add-one), rw (moved_up (f (a + k)) k b h, add-one, pow-suc) (omega (arith, rw mul-one at m)))

@@ -2,12 +2,6 @@
 use Rattle.std.specs.Prelude.{◌≡◌, List, ℕ, ◌+◌, ◌*◌, ◌/◌, ◌%◌, ◌^◌, ◌<◌, ◌≤◌, length, get_or}
 use Rattle.assembler.specs.Assembled.{payload_before, known_bit}
 
--- bits from one place on copied to another
-pub record CopyAsked (line plain : List ℕ) (to from count : ℕ) : Type 0 where
-  pub room : to + count ≤ length line
-  pub whole_plain : from + count ≤ length plain
-  pub few : count ≤ 2160
-
 -- a line of payload bits from the first of the byte that the symbol's first payload bit is in
 pub record LineAsked (line plain : List ℕ) (part bytes start count before after : ℕ) : Type 0 where
   pub room : 2176 ≤ length line
@@ -34,10 +28,8 @@ pub record PackAsked (line : List ℕ) (at : ℕ) : Type 0 where
   pub few : at ≤ 2168
   pub bits : (j : ℕ) → get_or line j 0 < 2
 
--- bytes of a line written from a place of the payload on
-pub record BytesAsked (payload line : List ℕ) (first count : ℕ) : Type 0 where
-  pub room : first + count ≤ length payload
-  pub near : first ≤ 65535
-  pub whole : 8 * count ≤ length line
-  pub few : count ≤ 271
+-- bytes of a line
+pub record BytesAsked (bytes line : List ℕ) : Type 0 where
+  pub whole : 8 * length bytes ≤ length line
+  pub few : length bytes ≤ 271
   pub bits : (j : ℕ) → get_or line j 0 < 2

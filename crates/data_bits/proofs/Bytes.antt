@@ -1,13 +1,12 @@
 -- Data bits by whole bytes: bytes of the payload one after the other, and what stands around them.
-use mathlib.Core.Path.{◌≡◌, ◌∙◌, refl, sym, ap}
-use mathlib.Core.List.{List, [], ◌∷◌}
-use Prim.Native.Nat.{ℕ, zero, suc, ◌+◌, ◌-◌, ◌*◌, ◌/◌, ◌%◌, ◌^◌, ◌<◌, ◌≤◌, min}
-use native.Mathlib.Omega.{arith}
-use lib.Dec.{T, eqb, eqb→eq}
-use lib.ListN.{length, get_or}
+use Rattle.std.proofs.Common.{◌≡◌, ◌∙◌, refl, sym, ap, List, [], ◌∷◌, ℕ, zero, suc, ◌+◌, ◌-◌, ◌*◌, ◌/◌, ◌%◌, ◌^◌, ◌<◌, ◌≤◌, min, T, eqb, length, get_or, arith}
+use Rattle.std.proofs.Math.Dec.{eqb→eq}
+use Rattle.std.specs.List.{between}
+use Rattle.std.proofs.lemmas.List.Edits.{length-between, get_or-between}
+use borrow.Rule.Slice.PartMut.{put_mid}
 use Rattle.laws.specs.Test.{both_left, both_right, every}
 use Rattle.laws.specs.Filled.{Filled}
-use Rattle.laws.proofs.Filling.{fill_from, fill_as, fill_join, fill_end}
+use Rattle.laws.proofs.Filling.{fill_as, fill_end, fill_lent}
 use Rattle.laws.proofs.Search.{parts}
 use Rattle.chain.specs.DataBits.{payload_bit}
 use Rattle.chain.proofs.InputLaws.{payload_bit_lem, ranges, data_service, data_payload, data_zero}
@@ -25,22 +24,22 @@ pub data_asked : (raw payload : List ℕ) (bytes from count : ℕ) → T (every 
 data_asked raw payload bytes from count zeros room whole short near few =
     record { room = room; blank = all_zero raw zeros; whole = whole; short = short; near = near; few = few }
 
--- a bit of a byte is a bit of the payload
-bit_of_byte : (payload : List ℕ) (from m k : ℕ) → k < 8 → get_or payload (from + m) 0 / 2 ^ k % 2 ≡ payload_bit payload (8 * from + (8 * m + k))
-bit_of_byte payload from m k h =
-    let q : (8 * from + (8 * m + k)) / 8 ≡ from + m = omega arith in
-    let r : (8 * from + (8 * m + k)) % 8 ≡ k = omega arith in
-    rw (q, r)
+-- the bits of some bytes of the payload are bits of the payload
+part_bit : (payload : List ℕ) (p q k : ℕ) → k < 8 * (q - p) → payload_bit (between p q payload) k ≡ payload_bit payload (8 * p + k)
+part_bit payload p q k h =
+    let d : (8 * p + k) / 8 ≡ p + k / 8 = omega arith in
+    let r : (8 * p + k) % 8 ≡ k % 8 = omega arith in
+    rw (d, r, get_or-between payload p q (k / 8) 0 (omega arith))
 
--- one byte more
-pub bytes_more : (payload : List ℕ) (to from m : ℕ) (d₀ d d' : List ℕ)
-    → Filled 0 (8 * to) (λ k. payload_bit payload (8 * from + k)) (8 * m) d₀ d
-    → Filled 0 (8 * (to + m)) (λ k. get_or payload (from + m) 0 / 2 ^ k % 2) 8 d d'
-    → Filled 0 (8 * to) (λ k. payload_bit payload (8 * from + k)) (8 * (m + 1)) d₀ d'
-bytes_more payload to from m d₀ d d' p q =
-    fill_end _ _ _ (omega arith)
-    (fill_join 0 (8 * to) (λ k. payload_bit payload (8 * from + k)) (8 * m) 8 d₀ d d' p
-    (fill_from _ _ (omega arith) (fill_as _ _ _ _ _ _ _ (λ k h. bit_of_byte payload from m k h) q)))
+-- bytes of the payload put as bits into a part of the list
+pub part_put : (payload raw₀ ys : List ℕ) (p q low high : ℕ) → low ≤ high → q - p ≡ high - low → q ≤ length payload → 8 * high ≤ length raw₀
+    → Filled 0 0 (payload_bit (between p q payload)) (8 * length (between p q payload)) (between (8 * low) (8 * high) raw₀) ys
+    → Filled 0 (8 * low) (λ k. payload_bit payload (8 * p + k)) (8 * (high - low)) raw₀ (put_mid (8 * low) (8 * high - 8 * low) raw₀ ys)
+part_put payload raw₀ ys p q low high o e whole room put =
+    let sized = length-between payload p q whole in
+    fill_as 0 (8 * low) _ _ _ raw₀ _ (λ k h. part_bit payload p q k (omega arith))
+    (fill_lent 0 (8 * low) _ _ (8 * high - 8 * low) raw₀ (omega arith) (omega arith)
+    (fill_end 0 0 _ (omega (arith, length-between raw₀ (8 * low) (8 * high) room)) put))
 
 -- bit j from byte `from` on by its number in the payload
 place : (from low j : ℕ) → 2 ≤ from + low → 8 * low ≤ j → 8 * (from + low - 2) + (j - 8 * low) ≡ 8 * from + j - 16

@@ -1,5 +1,6 @@
 // The data bits before scrambling.
-ghost use Rattle.std.specs.Prelude.{◌≡◌, ◌+◌, ◌-◌, ◌*◌, ◌/◌, ◌%◌, ◌≤◌, ◌^◌, min, length};
+ghost use Rattle.std.specs.Prelude.{◌≡◌, ◌+◌, ◌-◌, ◌*◌, ◌/◌, ◌%◌, ◌≤◌, ◌^◌, min, length, get_or};
+ghost use Rattle.std.specs.Int.Bits.{bit_xor};
 ghost use Rattle.laws.specs.Filled.{Filled};
 ghost use Rattle.chain.specs.DataBits.{payload_bit};
 ghost use Rattle.data_bits.specs.Asked.{DataAsked, DataFilled};
@@ -9,23 +10,28 @@ pub fn put_byte(raw: &mut [u8], at: usize, byte: u8)
     requires { (at + 8 ≤ length raw.old) × (at ≤ 2 ^ 27) }
     ensures { Filled 0 at (λ k. byte / 2 ^ k % 2) 8 raw.old raw.new }
 {
-    raw[at] = byte % 2;
-    raw[at + 1] = byte / 2 % 2;
-    raw[at + 2] = byte / 4 % 2;
-    raw[at + 3] = byte / 8 % 2;
-    raw[at + 4] = byte / 16 % 2;
-    raw[at + 5] = byte / 32 % 2;
-    raw[at + 6] = byte / 64 % 2;
-    raw[at + 7] = byte / 128;
+    for k in 0..8 {
+        raw[at + k] = (byte >> k) % 2;
+    }
 }
 
-// Whole bytes of the payload from one on, as bits.
-fn put_bytes(raw: &mut [u8], payload: &[u8], to: usize, from: usize, count: usize)
-    requires { (8 * (to + count) ≤ length raw.old) × (to + count ≤ 273) × (from + count ≤ length payload.now) × (from ≤ 65535) }
-    ensures { Filled 0 (8 * to) (λ k. payload_bit payload.now (8 * from + k)) (8 * count) raw.old raw.new }
+// Bytes as bits, one after the other.
+fn put_bytes(raw: &mut [u8], bytes: &[u8])
+    requires { (8 * length bytes.now ≤ length raw.old) × (length bytes.now ≤ 273) }
+    ensures { Filled 0 0 (payload_bit bytes.now) (8 * length bytes.now) raw.old raw.new }
 {
-    for m in 0..count {
-        put_byte(raw, 8 * (to + m), payload[from + m]);
+    for (m, &byte) in bytes.iter().enumerate() {
+        put_byte(raw, 8 * m, byte);
+    }
+}
+
+// Bits, and on each of them another.
+pub fn add_bits(sums: &mut [u8], bits: &[u8], others: &[u8])
+    requires { (length sums.old ≤ length bits.now) × (length sums.old ≤ length others.now) }
+    ensures { Filled 0 0 (λ t. bit_xor (get_or bits.now t 0) (get_or others.now t 0)) (length sums.old) sums.old sums.new }
+{
+    for t in 0..sums.len() {
+        sums[t] = bits[t] ^ others[t];
     }
 }
 
@@ -33,13 +39,7 @@ fn put_bytes(raw: &mut [u8], payload: &[u8], to: usize, from: usize, count: usiz
 pub fn below_mark(mark: usize, start: usize, count: usize) -> usize
     ensures { result ≡ min (mark - start) count }
 {
-    if mark <= start {
-        return 0;
-    }
-    if count <= mark - start {
-        return count;
-    }
-    mark - start
+    mark.saturating_sub(start).min(count)
 }
 
 // The data bits before scrambling, by whole bytes: two of service, the payload's, and zeros.
@@ -50,6 +50,9 @@ pub fn data_bits(raw: &mut [u8], payload: &[u8], bytes: usize, from: usize, coun
     let low = below_mark(2, from, count);
     let high = below_mark(bytes + 2, from, count);
     if low < high {
-        put_bytes(raw, payload, low, from + low - 2, high - low);
+        put_bytes(
+            &mut raw[8 * low..8 * high],
+            &payload[from + low - 2..from + high - 2],
+        );
     }
 }

@@ -1,35 +1,44 @@
 -- Numbers added up over a range: the sum is zero exactly when each is. Three such ranges are service, tail and pad.
-use mathlib.Core.Path.{◌≡◌, refl, sym, subst}
-use mathlib.Core.List.{List}
-use Prim.Native.Nat.{ℕ, ◌+◌, ◌-◌, ◌<◌, ◌≤◌, min}
-use mathlib.Core.Logic.{⊎_elim}
-use native.Mathlib.Nat.{eq-or-lt_of_le}
-use native.Mathlib.Omega.{arith}
-use lib.ListN.{length}
-use lib.Dec.{eqb, eqb→eq}
+use Rattle.std.proofs.Common.{◌≡◌, ◌∙◌, sym, ap, List, ℕ, ◌+◌, ◌-◌, ◌*◌, ◌<◌, ◌≤◌, min, length, take, get_or, sum_by, eqb, arith}
+use Rattle.std.proofs.Math.Dec.{eqb→eq}
+use Rattle.std.specs.List.{between}
+use Rattle.std.proofs.lemmas.Slice.{between_from_start}
+use Rattle.std.proofs.lemmas.List.Sums.{get_or-le-sum_by, sum_by-le}
+use Rattle.std.proofs.lemmas.List.Elements.{All-from_get_or}
+use Rattle.std.proofs.lemmas.List.Edits.{length-between, get_or-between}
 use Rattle.laws.proofs.Reflect.{same_test, eqb_of}
 use Rattle.chain.specs.DataBits.{payload_end, tail_end}
-use Rattle.deframer.specs.Deframed.{framed, FramedAsked}
+use Rattle.deframer.specs.Deframed.{framed}
 use Rattle.deframer.specs.Asked.{Counted}
 use Rattle.deframer.proofs.Framing.{framed_right, right_framed}
 
-module _ (f : ℕ → ℕ) (from : ℕ) where
-  pub count_none : Counted f from from 0
-  count_none = record { none = λ e d h k. absurd (omega arith); zero = λ z. refl; small = omega arith }
+-- a list's numbers added up
+pub counted_sum : (xs : List ℕ) → ((d : ℕ) → get_or xs d 0 < 256) → Counted (λ d. get_or xs d 0) 0 (length xs) (sum_by (λ (b : ℕ). b) xs)
+counted_sum xs small = record {
+  none = λ z d h l. omega (arith, get_or-le-sum_by (λ (b : ℕ). b) xs d 0 l);
+  zero = λ z. omega (arith, most 0 (λ d l. omega (arith, z d (omega arith) l)));
+  small = omega (arith, most 255 (λ d l. omega (arith, small d)));
+}
+  where
+    most : (m : ℕ) → ((d : ℕ) → d < length xs → get_or xs d 0 ≤ m) → sum_by (λ (b : ℕ). b) xs ≤ length xs * m
+    most m h = sum_by-le (λ (b : ℕ). b) m xs (All-from_get_or (λ (x : ℕ). x ≤ m) xs 0 h)
 
-  -- one number more
-  pub count_more : (d total w : ℕ) → from ≤ d → w ≡ f d → w ≤ 255 → Counted f from d total → Counted f from (d + 1) (total + w)
-  count_more d total w l e s c = record {
-    none = λ z k h m. ⊎_elim
-        (λ (q : k ≡ d). subst (λ (j : ℕ). f j ≡ 0) (sym q) (omega arith))
-        (λ (q : k < d). c.none (omega arith) k h q)
-        (eq-or-lt_of_le (omega arith));
-    zero = λ z. omega (arith, c.zero (λ k h m. z k h (omega arith)), z d l (omega arith));
-    small = omega (arith, c.small);
-  }
+-- the numbers of a part of a list
+pub counted_part : (xs : List ℕ) (from to total : ℕ) → from ≤ to → to ≤ length xs
+    → Counted (λ d. get_or (between from to xs) d 0) 0 (length (between from to xs)) total → Counted (λ d. get_or xs d 0) from to total
+counted_part xs from to total o l c =
+    let sized = length-between xs from to l in
+    record {
+      none = λ z d h m.
+          sym (get_or-between xs from to (d - from) 0 (omega arith) ∙ ap (λ (i : ℕ). get_or xs i 0) (omega arith))
+          ∙ c.none z (d - from) (omega arith) (omega arith);
+      zero = λ z. c.zero (λ d h m. get_or-between xs from to d 0 (omega arith) ∙ z (from + d) (omega arith) (omega arith));
+      small = omega (arith, c.small);
+    }
 
-  pub count_end : {d to total : ℕ} → d ≡ to → Counted f from d total → Counted f from to total
-  count_end {total = total} e c = subst (λ (k : ℕ). Counted f from k total) e c
+pub counted_front : (xs : List ℕ) (n total : ℕ) → n ≤ length xs
+    → Counted (λ d. get_or (take n xs) d 0) 0 (length (take n xs)) total → Counted (λ d. get_or xs d 0) 0 n total
+counted_front xs n total l c = counted_part xs 0 n total (omega arith) l (rw (between_from_start xs n) c)
 
 -- service, tail and pad of a symbol add up to zero exactly when it passes
 pub framed_counted : (bytes encoders start count : ℕ) (X P : ℕ → ℕ) (service tail pad a b c : ℕ)
@@ -53,10 +62,3 @@ framed_counted bytes encoders start count X P service tail pad a b c service-is 
       q.zero (λ d h k. (right d (omega arith)).1 (omega arith) (omega arith)),
       r.zero (λ d h k. (right d (omega arith)).2 (omega arith)),
     )))
-
--- the marks are in order, and within the symbol
-pub marks_asked : (inputs plain : List ℕ) (bytes encoders start count tail pad : ℕ) → FramedAsked inputs plain bytes encoders start count
-    → tail ≡ min (payload_end bytes - start) count → pad ≡ min (tail_end bytes encoders - start) count
-    → (tail ≤ pad) × (pad ≤ count) × (pad ≤ length inputs) × (pad ≤ length plain) × (pad ≤ 2160)
-marks_asked inputs plain bytes encoders start count tail pad asked tail-is pad-is =
-    (omega arith, omega arith, omega arith, omega arith, omega arith)

@@ -1,10 +1,6 @@
 -- Seed and plain bits of a symbol's inputs.
-use mathlib.Core.Path.{◌≡◌, ◌∙◌, ap}
-use mathlib.Core.List.{List}
-use Prim.Native.Nat.{ℕ, ◌+◌, ◌*◌, ◌<◌}
-use native.Mathlib.Omega.{arith}
-use lib.Bits.{bit_xor}
-use lib.ListN.{get_or}
+use Rattle.std.proofs.Common.{◌≡◌, ◌∙◌, ap, List, ℕ, zero, suc, ◌+◌, ◌*◌, ◌^◌, ◌<◌, get_or, arith}
+use Rattle.std.specs.Int.Bits.{bit_xor}
 use Rattle.laws.specs.Filled.{Filled}
 use Rattle.laws.proofs.Filling.{fill_at, fill_as}
 use Rattle.laws.proofs.Xor.{xor_bits}
@@ -16,12 +12,18 @@ use Rattle.deframer.specs.Deframed.{plain_bit}
 pub plain_bit_lem : (s : ℕ) (X : ℕ → ℕ) (d : ℕ) → plain_bit s X d < 2
 plain_bit_lem s X d = omega arith
 
--- the seed by two nibbles
-pub seed_nibbles : (X : ℕ → ℕ) (low high r : ℕ) → low ≡ X 6 + 2 * X 5 + 4 * X 4 + 8 * X 3 → high ≡ X 2 + 2 * X 1 + 4 * X 0 + 8 * 0
-    → low < 16 → high < 8 → r ≡ state_at (low + 16 * high) 120 → (r ≡ seed_of X) × (r < 128)
+-- k bits as a number, the first the highest
+abbrev pub first_highest : (X : ℕ → ℕ) (k : ℕ) → ℕ
+first_highest X zero = 0
+first_highest X (suc k) = 2 * first_highest X k + X k
+
+-- the seed by the first seven bits
+pub seed_by : (X : ℕ → ℕ) (v k r : ℕ) → k ≡ 7 → v ≡ first_highest X k → v < 2 ^ k → r ≡ state_at v 120 → (r ≡ seed_of X) × (r < 128)
 unfolding seed_of
-seed_nibbles X low high r l h s t e =
-    (e ∙ ap (λ (z : ℕ). state_at z 120) (omega arith), rw e (state_small (low + 16 * high) 120 (omega arith)))
+seed_by X v k r seven h s e =
+    let number : v ≡ first_highest X 7 = h ∙ ap (first_highest X) seven in
+    let small : v < 2 ^ 7 = rw seven at s in
+    (e ∙ ap (λ (z : ℕ). state_at z 120) (omega arith), rw e (state_small v 120 small))
 
 -- inputs with the scrambler's outputs on them are the plain bits
 pub plain_filled : (inputs outputs₀ outputs plain₀ plain : List ℕ) (state count : ℕ) → ((d : ℕ) → d < count → get_or inputs d 0 < 2)

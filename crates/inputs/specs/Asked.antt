@@ -18,27 +18,17 @@ pub record InputsAsked (line payload : List ℕ) (bytes encoders seed first coun
 abbrev pub mixed_bit : (raw outputs : ℕ → ℕ) (tail pad t : ℕ) → ℕ
 mixed_bit raw outputs tail pad t = cond (both (not (ltb t tail)) (ltb t pad)) 0 ((raw t + outputs t) % 2)
 
--- data bits from `at` on and scrambler outputs from `from` on
-pub record AddAsked (line raw outputs : List ℕ) (to at from count : ℕ) : Type 0 where
-  pub room : to + count ≤ length line
-  pub few : to + count ≤ most_line
-  pub near : at + count ≤ length raw
-  pub out_near : from + count ≤ length outputs
-
-pub record MixAsked (line raw outputs : List ℕ) (to skip tail pad count : ℕ) : Type 0 where
-  pub room : to + count ≤ length line
-  pub few : to + count ≤ most_line
-  pub near : skip + count ≤ length raw
-  pub skips : skip < 8
-  pub out_near : count ≤ length outputs
+-- data bits and a scrambler output for each place of the line, the tail between two of its places
+pub record MixAsked (line raw outputs : List ℕ) (tail pad : ℕ) : Type 0 where
+  pub near : length line ≤ length raw
+  pub out_near : length line ≤ length outputs
   pub ordered : tail ≤ pad
-  pub ends : pad ≤ count
+  pub ends : pad ≤ length line
   pub raw_bits : (j : ℕ) → get_or raw j 0 < 2
-  pub out_bits : (j : ℕ) → j < count → get_or outputs j 0 < 2
+  pub out_bits : (j : ℕ) → j < length line → get_or outputs j 0 < 2
 
-pub record ScrambledAsked (line payload : List ℕ) (bytes encoders seed to start count : ℕ) : Type 0 where
-  pub room : to + count ≤ length line
-  pub few : to + count ≤ most_line
+pub record ScrambledAsked (line payload : List ℕ) (bytes encoders seed start : ℕ) : Type 0 where
+  pub few : length line ≤ most_line
   pub whole : bytes ≤ length payload
   pub short : bytes ≤ 65535
   pub at_most_two : encoders ≤ 2

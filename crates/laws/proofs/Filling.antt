@@ -8,6 +8,11 @@ use native.Mathlib.Omega.{arith}
 use lib.ListN.{length, get_or, set, length-set}
 use lib.Seq.{get_or-set_same, get_or-set_other}
 use borrow.Author.Count.{below_more}
+use Rattle.std.proofs.Common.{rules, replicate, length-take, length-drop}
+use Rattle.std.proofs.lemmas.List.{places, get_or-replicate}
+use Rattle.std.specs.List.{between}
+use Rattle.std.proofs.lemmas.List.Edits.{length-between, get_or-between}
+use borrow.Rule.Slice.PartMut.{mid_of, put_mid}
 use Rattle.laws.specs.Filled.{Filled}
 use Rattle.laws.proofs.Search.{lt_or_le}
 
@@ -57,6 +62,38 @@ fill_join z a f n m d₀ d d' p q = record {
   before = λ i l. q.before i (omega arith) ∙ p.before i l;
   after = λ i l. q.after i (omega arith) ∙ p.after i (omega arith);
 }
+
+-- a part written over by itself, as `copy_from_slice`, `fill` and a call that is lent the part do
+pub fill_part : {A : Type 0} (z : A) (a : ℕ) (f : ℕ → A) (n k : ℕ) (d₀ ys : List A) → a + k ≤ length d₀ → length ys ≡ k → n ≡ k
+    → ((i : ℕ) → i < n → get_or ys i z ≡ f i) → Filled z a f n d₀ (put_mid a k d₀ ys)
+fill_part z a f n k d₀ ys room sized e g = record {
+  same = search (rules, places);
+  done = λ i l. search (rules, places) ∙ g i l;
+  before = λ i l. search (rules, places);
+  after = λ i l. search (rules, places);
+}
+
+-- a part that a call was lent and filled
+pub fill_lent : {A : Type 0} (z : A) (a : ℕ) (f : ℕ → A) (n k : ℕ) (d₀ : List A) {ys : List A} → a + k ≤ length d₀ → n ≡ k
+    → Filled z 0 f (length (mid_of a k d₀)) (mid_of a k d₀) ys → Filled z a f n d₀ (put_mid a k d₀ ys)
+fill_lent z a f n k d₀ {ys = ys} room e p =
+    let sized : length (mid_of a k d₀) ≡ k = simp (length-take, length-drop) (omega arith) in
+    fill_part z a f n k d₀ ys room (p.same ∙ sized) e (λ i l. fill_at z f p i (omega arith))
+
+-- a part that `fill` writes over
+pub fill_same : {A : Type 0} (z : A) (a : ℕ) (v : A) (n k : ℕ) (d₀ ys : List A) → a + k ≤ length d₀ → n ≡ k
+    → ys ≡ replicate (length (mid_of a k d₀)) v → Filled z a (λ i. v) n d₀ (put_mid a k d₀ ys)
+fill_same z a v n k d₀ ys room e same =
+    let sized : length (mid_of a k d₀) ≡ k = simp (length-take, length-drop) (omega arith) in
+    rw (same, sized) (fill_part z a (λ i. v) n k d₀ (replicate k v) room (search (rules, places)) e
+    (λ i l. get_or-replicate k i v z (omega arith)))
+
+-- a part that `copy_from_slice` writes over with a part of another list
+pub fill_copied : {A : Type 0} (z : A) (a : ℕ) (xs : List A) (from to n k : ℕ) (d₀ ys : List A) → a + k ≤ length d₀ → n ≡ k → from + n ≡ to
+    → to ≤ length xs → ys ≡ between from to xs → Filled z a (λ i. get_or xs (from + i) z) n d₀ (put_mid a k d₀ ys)
+fill_copied z a xs from to n k d₀ ys room e g whole same =
+    rw same (fill_part z a (λ i. get_or xs (from + i) z) n k d₀ (between from to xs) room (omega (arith, length-between xs from to whole)) e
+    (λ i l. get_or-between xs from to i z (omega arith)))
 
 -- elements are small where the function's values are
 pub fill_small : {f : ℕ → ℕ} {n bound : ℕ} {d₀ d : List ℕ} → Filled 0 0 f n d₀ d → ((i : ℕ) → f i < bound) → (i : ℕ) → i < n → get_or d i 0 < bound

@@ -29,12 +29,12 @@ fn head_word(g: SigFields) -> u64
     ensures { (result ≡ head_word g) × (result < 17179869184) }
 {
     let wide = g.width == 40;
-    let flags = one(g.smoothing)
-        + 2 * one(g.not_sounding)
+    let flags = u64::from(g.smoothing)
+        + 2 * u64::from(g.not_sounding)
         + 4
-        + 8 * one(g.aggregation)
-        + 128 * one(g.short_guard);
-    g.mcs + 128 * one(wide) + 256 * g.length + 16777216 * flags
+        + 8 * u64::from(g.aggregation)
+        + 128 * u64::from(g.short_guard);
+    g.mcs + 128 * u64::from(wide) + 256 * g.length + 16777216 * flags
 }
 
 // All 48 bits.
@@ -46,34 +46,12 @@ pub fn sig_word(g: SigFields) -> u64
     head + 17179869184 * crc_field(crc(head))
 }
 
-fn low_byte(x: u64) -> u8
-    ensures { result ≡ x % 256 }
-{
-    (x % 256) as u8
-}
-
 // Writes the low six bytes of a number, low byte first.
 pub fn put_six(w: u64, out: &mut [u8])
     requires { 6 ≤ length out.old }
     ensures { out.new ≡ six_of w ++ drop 6 out.old }
 {
-    let w1 = w / 256;
-    let w2 = w1 / 256;
-    let w3 = w2 / 256;
-    let w4 = w3 / 256;
-    let w5 = w4 / 256;
-    out[0] = low_byte(w);
-    out[1] = low_byte(w1);
-    out[2] = low_byte(w2);
-    out[3] = low_byte(w3);
-    out[4] = low_byte(w4);
-    out[5] = low_byte(w5);
-}
-
-fn byte_value(b: u8) -> u64
-    ensures { (result ≡ b) × (result < 256) }
-{
-    b as u64
+    out[..6].copy_from_slice(&w.to_le_bytes()[..6]);
 }
 
 // The number that six bytes are, low byte first.
@@ -81,9 +59,9 @@ pub fn word_in(sig: &[u8]) -> u64
     requires { length sig.now ≡ 6 }
     ensures { result ≡ word_in sig.now }
 {
-    let low = byte_value(sig[0]) + 256 * byte_value(sig[1]) + 65536 * byte_value(sig[2]);
-    let high = byte_value(sig[3]) + 256 * byte_value(sig[4]) + 65536 * byte_value(sig[5]);
-    low + 16777216 * high
+    let mut bytes = [0; 8];
+    bytes[..6].copy_from_slice(sig);
+    u64::from_le_bytes(bytes)
 }
 
 pub fn crc_wrong(w: u64) -> bool
@@ -98,24 +76,19 @@ pub fn form_wrong(w: u64) -> bool
     ensures { result ≡ word_form_wrong w }
 {
     (w % 128 > 31)
-        | ((w / 256 % 65536 == 0)
-            | ((w / 67108864 % 2 != 1)
-                | ((w / 268435456 % 4 != 0)
-                    | ((w / 1073741824 % 2 != 0)
-                        | ((w / 4294967296 % 4 != 0) | (w / 4398046511104 % 64 != 0))))))
-}
-
-fn width_of(bit: u64) -> u64
-    ensures { (bit ≡ 1 → result ≡ 40) × ((bit ≡ 1 → ⊥) → result ≡ 20) }
-{
-    if bit == 1 { 40 } else { 20 }
+        | (w / 256 % 65536 == 0)
+        | (w / 67108864 % 2 != 1)
+        | (w / 268435456 % 4 != 0)
+        | (w / 1073741824 % 2 != 0)
+        | (w / 4294967296 % 4 != 0)
+        | (w / 4398046511104 % 64 != 0)
 }
 
 pub fn fields_in(w: u64) -> SigFields
     ensures { result ≡ fields_in_word w }
 {
     SigFields {
-        width: width_of(w / 128 % 2),
+        width: if w / 128 % 2 == 1 { 40 } else { 20 },
         mcs: w % 128,
         length: w / 256 % 65536,
         smoothing: w / 16777216 % 2 == 1,

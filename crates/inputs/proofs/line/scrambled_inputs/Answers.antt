@@ -1,5 +1,5 @@
 -- `scrambled_inputs`: data bits and outputs from one place on are mixed, with the tail where the frame has it.
-use native.Mathlib.Omega.{arith}
+use Rattle.std.proofs.Common.{arith}
 use Rattle.chain.proofs.ScramblerLaws.{state_small}
 use Rattle.data_bits.proofs.Bytes.{data_asked}
 use Rattle.inputs.proofs.Mixing.{inputs_filled}
@@ -13,6 +13,6 @@ scrambler_outputs-requires c = (rw c.jump.ensures (state_small _ _ c.requires.se
 
 pub returns : goal.returns
 returns c = let a = c.args in
-    inputs_filled a.payload.now _ _ _ _ _ _ a.bytes a.encoders a.seed a.to a.start a.count _ _ _
+    inputs_filled a.payload.now _ _ _ _ _ _ a.bytes a.encoders a.seed a.start _ _ _ _ c.requires.few
     c.data_bits.ensures c.jump.ensures c.scrambler_outputs.ensures
     c.below_mark-tail.ensures c.below_mark-pad.ensures c.mix.ensures
