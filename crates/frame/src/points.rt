@@ -57,7 +57,10 @@ pub fn points(
     ensures value { result ≡ points_of (check_of raw) (length payload.now) symbol (length out.old) }
     ensures out_after { out.new ≡ points_into (check_of raw) payload.now symbol out.old }
 {
-    let s = check(raw)?;
+    let checked = check(raw);
+    let Ok(s) = checked else {
+        return Err(checked.unwrap_err());
+    };
     let short = payload.len() < s.length as usize;
     if short {
         return Err(Refusal::Source);

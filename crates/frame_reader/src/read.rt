@@ -1,6 +1,5 @@
 // The strict reader started and stepped over the symbols of a frame, whose points stand in one slice, symbol by symbol.
-ghost use Rattle.std.specs.Prelude.{◌≡◌, ◌≤◌, length, get_or};
-ghost use Rattle.laws.specs.Filled.{Filled};
+ghost use Rattle.std.specs.Prelude.{◌≡◌, length};
 ghost use Rattle.frame_steps.specs.WholeFrame.{read_frame_of, read_frame_into};
 ghost use Rattle.frame_steps.specs.Statements.{ReadsFrame};
 ghost use Rattle.frame_steps.specs.Asked.{FrameAsked};
@@ -11,16 +10,6 @@ use frame_steps::steps::{FrameRefusal, read_symbols};
 use reader_state::state::{OpenSettings, Reader, start};
 use settings::settings::{Refusal, Settings, check};
 use symbols::count::symbols_of;
-
-// The first bytes of a slice put into another.
-fn copy_bytes(to: &mut [u8], from: &[u8], count: usize)
-    requires { (count ≤ length to.old) × (count ≤ length from.now) }
-    ensures { Filled 0 0 (λ k. get_or from.now k 0) count to.old to.new }
-{
-    for i in 0..count {
-        to[i] = from[i];
-    }
-}
 
 // All symbols read into bytes apart, which are copied where every symbol was accepted.
 fn read_into(
@@ -34,7 +23,8 @@ fn read_into(
     ensures { FrameLeft reader points.now result payload.old payload.new }
 {
     let seed = read_symbols(reader, symbols_of(s), floats_of(s), points, apart)?;
-    copy_bytes(payload, apart, s.length as usize);
+    let bytes = s.length as usize;
+    payload[..bytes].copy_from_slice(&apart[..bytes]);
     Ok(seed)
 }
 
@@ -58,7 +48,10 @@ pub fn read_frame(o: OpenSettings, points: &[f32], payload: &mut [u8]) -> Result
     ensures left { payload.new ≡ read_frame_into o points.now payload.old }
     ensures exactly { ReadsFrame o points.now result payload.old payload.new }
 {
-    let s = check(o.into())?;
+    let checked = check(o.into());
+    let Ok(s) = checked else {
+        return Err(FrameRefusal::Refused(checked.unwrap_err()));
+    };
     let small = (points.len() < symbols_of(s) as usize * floats_of(s))
         | (payload.len() < s.length as usize);
     if small {

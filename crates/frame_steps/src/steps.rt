@@ -1,6 +1,4 @@
 // The symbols of a whole frame read in order, from one slice of points.
-ghost use Rattle.std.specs.Prelude.{◌≡◌};
-ghost use Rattle.frame_steps.specs.declared.steps.FrameRefusal.TheVariants.{Refused as FrameRefused};
 ghost use Rattle.frame_steps.specs.Asked.{SymbolsAsked, SymbolsRead};
 
 use acceptance::accept::StepRefusal;
@@ -15,14 +13,6 @@ pub enum FrameRefusal {
     BadPoint(u64, u8, i32),
     BadSymbol(u64, Refusal),
     Refused(Refusal),
-}
-
-impl From<Refusal> for FrameRefusal {
-    ghost from_gives = { λ r e. e ≡ FrameRefused r };
-
-    fn from(r: Refusal) -> FrameRefusal {
-        FrameRefusal::Refused(r)
-    }
 }
 
 // The seed, or the first refusal: the symbols in order, each from the state that the one before it left.

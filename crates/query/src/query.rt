@@ -86,7 +86,10 @@ pub fn subcarrier(
 ) -> Result<Carried, Refusal>
     ensures { result ≡ query_of (check_of raw) payload.now symbol stream subcarrier }
 {
-    let s = check(raw)?;
+    let checked = check(raw);
+    let Ok(s) = checked else {
+        return Err(checked.unwrap_err());
+    };
     let short = payload.len() < s.length as usize;
     if short {
         return Err(Refusal::Source);

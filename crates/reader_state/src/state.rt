@@ -80,15 +80,16 @@ fn blank(o: OpenSettings, ended: bool) -> Reader
 pub fn start(o: OpenSettings) -> Started
     ensures { result ≡ start_of o }
 {
-    match check(o.into()) {
-        Ok(_) => Started {
-            answer: Ok(()),
-            state: blank(o, false),
-        },
-        Err(r) => Started {
-            answer: Err(r),
+    let checked = check(o.into());
+    let Ok(_) = checked else {
+        return Started {
+            answer: Err(checked.unwrap_err()),
             state: blank(o, true),
-        },
+        };
+    };
+    Started {
+        answer: Ok(()),
+        state: blank(o, false),
     }
 }
 

@@ -24,7 +24,10 @@ fn fields_of(s: Settings) -> SigFields
 pub fn write(raw: RawSettings, out: &mut [u8]) -> Result<(), Refusal>
     ensures { (result ≡ written_of (check_of raw) (length out.old)) × (out.new ≡ written_into (check_of raw) out.old) }
 {
-    let s = check(raw)?;
+    let checked = check(raw);
+    let Ok(s) = checked else {
+        return Err(checked.unwrap_err());
+    };
     if out.len() < 6 {
         return Err(Refusal::Room);
     }

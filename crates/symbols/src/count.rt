@@ -28,6 +28,9 @@ pub fn symbols_of(s: Settings) -> u64
 pub fn symbol_count(raw: RawSettings) -> Result<u64, Refusal>
     ensures { result ≡ count_of (check_of raw) }
 {
-    let s = check(raw)?;
+    let checked = check(raw);
+    let Ok(s) = checked else {
+        return Err(checked.unwrap_err());
+    };
     Ok(symbols_of(s))
 }

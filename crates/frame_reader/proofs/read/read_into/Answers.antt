@@ -1,6 +1,7 @@
 -- `read_into`: the symbols are read into bytes apart, and copied where all are accepted.
 use Rattle.std.proofs.Common.{◌≡◌, ◌∙◌, sym, ℕ, ◌≤◌, length, arith, Ok, Err, Result}
 use Rattle.std.proofs.lemmas.Result.{err_from_is_err_and}
+use Rattle.laws.proofs.Filling.{fill_copied}
 use Rattle.frame_steps.specs.declared.steps.FrameRefusal.{FrameRefusal}
 use Rattle.frame_reader.proofs.ApartLaws.{asked_right, size_holds, symbols_asked, left_refused, left_read}
 use Rattle.frame_reader.proofs.read.read_into.Goals.{Start}
@@ -22,17 +23,14 @@ pub read_symbols-requires : goal.read_symbols-requires
 read_symbols-requires c = symbols_asked c.args.s c.args.reader c.args.points.now c.args.payload.now c.requires.0
     _ (omega (arith, holds (goal.at.read_symbols-requires c).Start, c.requires.0.whole_payload)) _ _ c.symbols_of.ensures c.floats_of.ensures.0
 
-pub copy_bytes-requires : goal.copy_bytes-requires
-copy_bytes-requires c =
-    let fits = holds (goal.at.copy_bytes-requires c).Start in
-    let kept = c.read_symbols.auto.payload in
-    (omega (arith, kept, fits, c.requires.0.whole_payload), omega (arith, kept, fits, c.requires.0.whole_payload))
-
 pub returns : goal.returns
 returns c =
+    let fits = holds (goal.at.returns c).Start in
+    let kept = c.read_symbols.auto.payload in
     let left = left_read c.args.s c.args.reader c.args.points.now c.args.payload.now c.requires.0
-    _ (omega (arith, holds (goal.at.returns c).Start, c.requires.0.whole_payload)) _ _ c.read_symbols.ensures _ c.in_ok-seed.was _
-    c.copy_bytes.ensures in
+        _ (omega (arith, fits, c.requires.0.whole_payload)) _ _ c.read_symbols.ensures _ c.in_ok-seed.was _
+        (fill_copied 0 0 c.read_symbols.new.payload 0 c.args.s.length c.args.s.length c.args.s.length c.args.payload.now _
+        (omega (arith, c.requires.0.whole_payload)) (omega arith) (omega arith) (omega (arith, kept, fits)) c.copy_from_slice.ensures.after) in
     rw c.in_ok-seed.was at left
 
 pub returns-in_err-seed : goal.returns-in_err-seed

@@ -7,7 +7,7 @@ use Rattle.signal.proofs.HtSigLaws.{wrote, sig_fits}
 use Rattle.signal.proofs.ht_sig.write.Goals as goal
 
 pub returns : goal.returns
-returns c = let q = sym c.in_ok-s.ensures in
-    wrote (check_of c.args.raw) c.in_ok-s.s c.sig_word.result c.args.out.now _ q c.if-out-lt6.false
-    (sig_fits c.in_ok-s.s (right c.args.raw c.in_ok-s.s q))
+returns c = let q = sym c.check-checked.ensures ∙ c.in-Ok.is in
+    wrote (check_of c.args.raw) c.in-Ok.s c.sig_word.result c.args.out.now _ q c.if-out-lt6.false
+    (sig_fits c.in-Ok.s (right c.args.raw c.in-Ok.s q))
     (c.sig_word.ensures.0 ∙ ap sig_word c.fields_of.ensures) c.put_six.ensures
