@@ -17,7 +17,7 @@ settings_right c = right (open_raw c.args.o) c.in-Ok.s (sym (settings c))
 pub returns-in_default : goal.returns-in_default
 returns-in_default c =
     let told = frame_as c.args.o c.args.points.now c.args.payload.now _
-        (sym c.unwrap_err.ensures ∙ c.check-checked.ensures ∙ ap check_of c.into.ensures) _ _ refl refl in
+    (sym c.unwrap_err.ensures ∙ c.check-checked.ensures ∙ ap check_of c.into.ensures) _ _ refl refl in
     record { answered = told.0; left = told.1.0; exactly = told.1.1 }
 
 pub symbols_of-requires : goal.symbols_of-requires

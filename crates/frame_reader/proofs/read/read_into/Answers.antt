@@ -1,7 +1,9 @@
 -- `read_into`: the symbols are read into bytes apart, and copied where all are accepted.
-use Rattle.std.proofs.Common.{◌≡◌, ◌∙◌, sym, ℕ, ◌≤◌, length, arith, Ok, Err, Result}
+use Rattle.std.proofs.Common.{◌≡◌, ◌∙◌, sym, ℕ, ◌≤◌, length, get_or, take, refl, arith, length-take, get_or-take, Ok, Err, Result}
 use Rattle.std.proofs.lemmas.Result.{err_from_is_err_and}
-use Rattle.laws.proofs.Filling.{fill_copied}
+use borrow.Rule.Slice.PartMut.{put_mid}
+use Rattle.laws.specs.Filled.{Filled}
+use Rattle.laws.proofs.Filling.{fill_part}
 use Rattle.frame_steps.specs.declared.steps.FrameRefusal.{FrameRefusal}
 use Rattle.frame_reader.proofs.ApartLaws.{asked_right, size_holds, symbols_asked, left_refused, left_read}
 use Rattle.frame_reader.proofs.read.read_into.Goals.{Start}
@@ -27,10 +29,14 @@ pub returns : goal.returns
 returns c =
     let fits = holds (goal.at.returns c).Start in
     let kept = c.read_symbols.auto.payload in
+    let read = c.read_symbols.new.payload in
+    let n = c.args.s.length in
+    let copied : Filled 0 0 (λ i. get_or read i 0) n c.args.payload.now (put_mid 0 n c.args.payload.now c.copy_from_slice.new.self) =
+    rw c.copy_from_slice.ensures.after (fill_part 0 0 (λ i. get_or read i 0) n n c.args.payload.now (take n read)
+    (omega (arith, c.requires.0.whole_payload)) (simp length-take (omega (arith, kept, fits))) refl (λ i l. get_or-take n read i 0 l)) in
     let left = left_read c.args.s c.args.reader c.args.points.now c.args.payload.now c.requires.0
-        _ (omega (arith, fits, c.requires.0.whole_payload)) _ _ c.read_symbols.ensures _ c.in_ok-seed.was _
-        (fill_copied 0 0 c.read_symbols.new.payload 0 c.args.s.length c.args.s.length c.args.s.length c.args.payload.now _
-        (omega (arith, c.requires.0.whole_payload)) (omega arith) (omega arith) (omega (arith, kept, fits)) c.copy_from_slice.ensures.after) in
+    _ (omega (arith, fits, c.requires.0.whole_payload)) _ _ c.read_symbols.ensures _ c.in_ok-seed.was _
+    copied in
     rw c.in_ok-seed.was at left
 
 pub returns-in_err-seed : goal.returns-in_err-seed
