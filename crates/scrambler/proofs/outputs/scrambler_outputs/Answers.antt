@@ -21,5 +21,6 @@ loop-t-2-preserved c =
     let t = c.loop-t-2.t in
     let so_far = fill_end 0 0 (λ k. scrambler_bit s k) {m = t} (omega arith) c.loop-t-2.invariant in
     let before = fill_at 0 (λ k. scrambler_bit s k) so_far (t - 127) (omega arith) in
-    let again : scrambler_bit s (t - 127) ≡ scrambler_bit s t = ap output (sym (period s (t - 127) (omega arith)) ∙ ap (state_at s) (omega arith)) in
+    let again : scrambler_bit s (t - 127) ≡ scrambler_bit s t =
+    ap output (sym (period s (t - 127) (omega arith)) ∙ ap (state_at s) (omega arith)) in
     fill_end _ _ _ (omega arith) (fill_more _ _ _ _ _ _ _ _ (omega arith) (omega arith) (before ∙ again) so_far)
