@@ -6,29 +6,34 @@ ghost use Rattle.puncturing.specs.Coded.{sum_place, PlaceAsked, PlacesAsked, Pic
 use chain::plan::MOST_CODED;
 use encoder::sums::both_sums;
 
-// Where the sum stands that kept bit y of encoder 0 is: each group of `kept` bits is A0 B0 A1 B2 A3 B4, as far as it goes.
-fn sum_place(kept: u16, encoders: u16, y: u16) -> u16
-    requires { PlaceAsked kept encoders y }
-    ensures { result ≡ sum_place kept encoders y }
+// Where the sum stands that kept bit y of encoder 0 is: each group of KEPT bits is A0 B0 A1 B2 A3 B4, as far as it goes.
+fn sum_place<const KEPT: u16>(encoders: u16, y: u16) -> u16
+    requires { PlaceAsked KEPT encoders y }
+    ensures { result ≡ sum_place KEPT encoders y }
 {
-    if kept == 2 {
-        return y % 2 * 2160 + encoders * (y / 2);
-    }
-    if kept == 3 {
-        return y % 3 % 2 * 2160 + encoders * (y - (y + 2) / 3);
-    }
-    if kept == 4 {
-        return y % 2 * 2160 + encoders * (y - (y + 3) / 4);
-    }
-    y % 2 * 2160 + encoders * (y - (y + 5) / 6)
+    y % KEPT % 2 * 2160 + encoders * ((KEPT - 1) * (y / KEPT) + (y % KEPT).saturating_sub(1))
 }
 
-fn sum_places(places: &mut [u16], kept: u16, encoders: u16, count: u16)
+fn sum_places<const KEPT: u16>(places: &mut [u16], encoders: u16, count: u16)
+    requires { PlacesAsked places.old KEPT encoders count }
+    ensures { Filled 0 0 (λ y. sum_place KEPT encoders y) count places.old places.new }
+{
+    for y in 0..count {
+        places[y as usize] = sum_place::<KEPT>(encoders, y);
+    }
+}
+
+fn places_at(places: &mut [u16], kept: usize, encoders: usize, count: usize)
     requires { PlacesAsked places.old kept encoders count }
     ensures { Filled 0 0 (λ y. sum_place kept encoders y) count places.old places.new }
 {
-    for y in 0..count {
-        places[y as usize] = sum_place(kept, encoders, y);
+    let encoders = encoders as u16;
+    let count = count as u16;
+    match kept {
+        2 => sum_places::<2>(places, encoders, count),
+        3 => sum_places::<3>(places, encoders, count),
+        4 => sum_places::<4>(places, encoders, count),
+        _ => sum_places::<6>(places, encoders, count),
     }
 }
 
@@ -51,7 +56,7 @@ pub fn coded_bits(coded: &mut [u8], line: &[u8], encoders: usize, kept: usize, g
     let mut places = [0u16; MOST_CODED];
     let share = kept * groups;
     both_sums(&mut sums, line, encoders, encoders * ((kept - 1) * groups));
-    sum_places(&mut places, kept as u16, encoders as u16, share as u16);
+    places_at(&mut places, kept, encoders, share);
     pick(coded, &sums, &places, 0, 0, share);
     if encoders == 2 {
         pick(coded, &sums, &places, 1296, 1, share);

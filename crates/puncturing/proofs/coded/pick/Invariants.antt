@@ -1,5 +1,5 @@
 -- `puncturing::coded::pick`: the loop's store of the sum at each place fills the coded bits. Assumes nothing.
-use Prim.Native.Nat.{◌+◌, ◌-◌, ◌≤◌}
+use Prim.Native.Nat.{◌+◌, ◌≤◌}
 use lib.ListN.{get_or}
 use Rattle.laws.specs.Filled.{Filled}
 use Rattle.puncturing.proofs.coded.pick.Given as goal
