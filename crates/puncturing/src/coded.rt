@@ -1,5 +1,5 @@
 // Puncturing: where among the sums each kept bit stands, and the coded bits of a symbol.
-ghost use Rattle.std.specs.Prelude.{◌≡◌, ◌+◌, ◌*◌, get_or};
+ghost use Rattle.std.specs.Prelude.{◌≡◌, ◌+◌, ◌*◌, length, get_or};
 ghost use Rattle.laws.specs.Filled.{Filled};
 ghost use Rattle.puncturing.specs.Coded.{sum_place, PlaceAsked, PlacesAsked, PickAsked, CodedAsked, Coded};
 
@@ -38,12 +38,12 @@ fn places_at(places: &mut [u16], kept: usize, encoders: usize, count: usize)
 }
 
 // The bits of encoder j: its sums stand j places after those of encoder 0.
-fn pick(coded: &mut [u8], sums: &[u8], places: &[u16], to: usize, j: usize, count: usize)
-    requires { PickAsked coded.old sums.now places.now to j count }
-    ensures { Filled 0 to (λ y. get_or sums.now (get_or places.now y 0 + j) 0) count coded.old coded.new }
+fn pick(coded: &mut [u8], sums: &[u8], places: &[u16], j: usize)
+    requires { PickAsked coded.old sums.now places.now j }
+    ensures { Filled 0 0 (λ y. get_or sums.now (get_or places.now y 0 + j) 0) (length places.now) coded.old coded.new }
 {
-    for y in 0..count {
-        coded[to + y] = sums[places[y] as usize + j];
+    for y in 0..places.len() {
+        coded[y] = sums[places[y] as usize + j];
     }
 }
 
@@ -57,8 +57,9 @@ pub fn coded_bits(coded: &mut [u8], line: &[u8], encoders: usize, kept: usize, g
     let share = kept * groups;
     both_sums(&mut sums, line, encoders, encoders * ((kept - 1) * groups));
     places_at(&mut places, kept, encoders, share);
-    pick(coded, &sums, &places, 0, 0, share);
+    let places = &places[..share];
+    pick(&mut coded[..share], &sums, places, 0);
     if encoders == 2 {
-        pick(coded, &sums, &places, 1296, 1, share);
+        pick(&mut coded[1296..1296 + share], &sums, places, 1);
     }
 }
