@@ -6,14 +6,14 @@ use Rattle.chain.proofs.ScramblerLaws.{state_zero, step_more, period}
 use Rattle.scrambler.proofs.outputs.scrambler_outputs.Goals as goal
 
 pub loop-t-init : goal.loop-t-init
-loop-t-init c = record { stored = fill_none _ _ _ _; stepped = sym (state_zero _); small = omega arith }
+loop-t-init c = (fill_none _ _ _ _, sym (state_zero _), omega arith)
 
 pub loop-t-preserved : goal.loop-t-preserved
-loop-t-preserved c = let inv = c.loop-t.invariant in record {
-  stored = fill_more _ _ _ _ _ _ _ _ (omega arith) (omega arith) (c.output_of.ensures ∙ ap output inv.stepped) inv.stored;
-  stepped = c.step-now_at.ensures ∙ ap next inv.stepped ∙ step_more _ _;
-  small = omega (arith, c.step-now_at.ensures);
-}
+loop-t-preserved c = let inv = c.loop-t.invariant in (
+  fill_more _ _ _ _ _ _ _ _ (omega arith) (omega arith) (c.output_of.ensures ∙ ap output inv.1) inv.0,
+  c.step-now_at.ensures ∙ ap next inv.1 ∙ step_more _ _,
+  omega (arith, c.step-now_at.ensures),
+)
 
 pub loop-t-2-preserved : goal.loop-t-2-preserved
 loop-t-2-preserved c =
