@@ -39,31 +39,34 @@ pub const MOST_LINE: usize = 2172;
 // Half labels, two a carrier.
 pub const MOST_HALVES: usize = 864;
 
-const BITS: [usize; 8] = [1, 2, 2, 4, 4, 6, 6, 6];
-
-const RATE_STEPS: [usize; 8] = [1, 1, 3, 1, 3, 2, 3, 5];
-
-const RATE_KEPT: [usize; 8] = [2, 2, 4, 2, 4, 3, 4, 6];
+// By the MCS modulo 8: coded bits per data carrier, and the rate as encoder steps and coded bits kept of them.
+const SCHEMES: [(usize, usize, usize); 8] = [
+    (1, 1, 2),
+    (2, 1, 2),
+    (2, 3, 4),
+    (4, 1, 2),
+    (4, 3, 4),
+    (6, 2, 3),
+    (6, 3, 4),
+    (6, 5, 6),
+];
 
 fn carriers_of(width: usize) -> usize
     ensures { result ≡ carriers_of width }
 {
-    let wide = width == 40;
-    if wide { 108 } else { 52 }
+    if width == 40 { 108 } else { 52 }
 }
 
 pub fn plan_for(width: usize, mcs: usize, encoders: usize) -> Plan
     requires { Planned width mcs encoders }
     ensures { result ≡ plan_of width mcs encoders }
 {
-    let rate = mcs % 8;
     let streams = mcs / 8 + 1;
-    let bits = BITS[rate];
-    let kept = RATE_KEPT[rate];
+    let (bits, steps, kept) = SCHEMES[mcs % 8];
     let carriers = carriers_of(width);
     let block = carriers * bits;
     let coded = block * streams;
-    let dbps = coded * RATE_STEPS[rate] / kept;
+    let dbps = coded * steps / kept;
     Plan {
         width,
         streams,
@@ -78,11 +81,9 @@ pub fn plan_for(width: usize, mcs: usize, encoders: usize) -> Plan
 }
 
 // Bits of one axis of a constellation point.
+#[tactic(auto, unfolding(crate::specs::Parser::axis_bits))]
 pub fn axis_bits(bits: usize) -> usize
     ensures { result ≡ axis_bits bits }
 {
-    if bits < 2 {
-        return 1;
-    }
-    bits / 2
+    (bits / 2).max(1)
 }

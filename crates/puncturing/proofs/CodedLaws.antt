@@ -1,17 +1,13 @@
--- Where the kept bits' sums stand, that each kept bit is the sum at its place, and that the bits picked from there are the coded bits. Assumes nothing.
-use mathlib.Core.Path.{◌≡◌, ◌∙◌, refl, sym, ap}
-use mathlib.Core.List.{List}
-use mathlib.Core.Logic.{⊎_elim}
-use Prim.Native.Nat.{ℕ, ◌+◌, ◌-◌, ◌*◌, ◌/◌, ◌%◌, ◌<◌, ◌≤◌}
-use native.Mathlib.Nat.{mul-le-mul, mul-le-mul_right}
+-- Where the kept bits' sums stand, that each kept bit is the sum at its place, and that the bits picked from there are the coded bits.
+-- Assumes nothing.
+use Rattle.std.proofs.Common.{◌≡◌, ◌∙◌, refl, sym, ap, ℕ, ◌+◌, ◌-◌, ◌*◌, ◌/◌, ◌%◌, ◌<◌, ◌≤◌, arith, ⊎_elim}
+use Rattle.std.proofs.Common.{List, mul-le-mul, mul-le-mul_right, ◌++◌, length, take, drop, get_or-take, eq-eqb, ne_eqb, T, get_or}
 use native.Mathlib.Decide.{ℕ_discrete}
-use native.Mathlib.Omega.{arith}
-use borrow.Author.Tests.{eq-eqb, ne_eqb}
-use lib.Dec.{T}
-use lib.ListN.{get_or}
+use borrow.Rule.Slice.PartMut.{put_mid}
+use Rattle.std.proofs.lemmas.Grind.{common_steps}
 use Rattle.laws.specs.Test.{among}
 use Rattle.laws.specs.Filled.{Filled}
-use Rattle.laws.proofs.Filling.{fill_at, fill_as}
+use Rattle.laws.proofs.Filling.{fill_at}
 use Rattle.chain.specs.Plan.{kept_counts}
 use Rattle.chain.specs.Encoder.{line_tap}
 use Rattle.chain.specs.Puncture.{kept_step, line_kept}
@@ -69,6 +65,24 @@ module _ (line : ℕ → ℕ) (e q g : ℕ) (rate : T (among kept_counts q))
             ∙ sym (kept_form (line_tap line e j) q y rate ∙ rw (ne_eqb (y % q % 2) 0 h))
       ]
 
+-- a part from a place on that is stored, in the whole
+module _ (f : ℕ → ℕ) (n : ℕ) (d s : List ℕ) (sized : length s ≡ n) (stored : (i : ℕ) → i < n → get_or s i 0 ≡ f i) where
+  pub stored_first : n ≤ length d → Filled 0 0 f n d (s ++ drop n d)
+  stored_first room = record {
+    same = grind (arith, common_steps);
+    done = λ i l. let e = stored i l in grind (arith, common_steps);
+    before = λ i l. absurd (omega arith);
+    after = λ i l. grind (arith, common_steps);
+  }
+
+  pub stored_from : (a k : ℕ) → k ≡ n → a + n ≤ length d → Filled 0 a f n d (put_mid a k d s)
+  stored_from a k e room = record {
+    same = grind (arith, common_steps);
+    done = λ i l. let e = stored i l in grind (arith, common_steps);
+    before = λ i l. grind (arith, common_steps);
+    after = λ i l. grind (arith, common_steps);
+  }
+
 -- what holds of the sizes of a symbol that is asked for
 pub record Sizes (encoders kept groups : ℕ) : Type 0 where
   pub one : 1 ≤ encoders
@@ -107,13 +121,13 @@ module _ (coded line : List ℕ) (e q g : ℕ) (asked : CodedAsked coded line e 
       omega (arith, fill_at 0 (λ y. sum_place q e y) f y l, sum_place_is q e y, input_few bit_at e q g asked.rate asked.bits j y mine l)
 
   -- what the bits picked for encoder j are
-  pub picked : {s sums d places before after : List ℕ} → Sums bit_at e (e * ((q - 1) * g)) s sums
-      → Filled 0 0 (λ y. sum_place q e y) (q * g) d places
-      → (to j k : ℕ) → j < e → k ≡ j → Filled 0 to (λ y. get_or sums (get_or places y 0 + k) 0) (q * g) before after
-      → Filled 0 to (λ y. line_kept bit_at e q j y) (q * g) before after
-  picked {sums = sums} {places = places} {before = before} {after = after} s f to j k mine same p =
-      fill_as 0 to (λ y. get_or sums (get_or places y 0 + k) 0) (λ y. line_kept bit_at e q j y) (q * g) before after
-      (λ y l. rw (fill_at 0 (λ y. sum_place q e y) f y l, same) (sum_kept bit_at e q g asked.rate asked.bits j y mine l s)) p
+  pub picked : {s sums d places before after : List ℕ} {n : ℕ} → Sums bit_at e (e * ((q - 1) * g)) s sums
+      → Filled 0 0 (λ y. sum_place q e y) (q * g) d places → (j k : ℕ) → j < e → k ≡ j → n ≡ q * g
+      → Filled 0 0 (λ y. get_or sums (get_or (take (q * g) places) y 0 + k) 0) n before after
+      → (y : ℕ) → y < q * g → get_or after y 0 ≡ line_kept bit_at e q j y
+  picked {sums = sums} {places = places} s f j k mine same size p y l =
+      fill_at 0 (λ y. get_or sums (get_or (take (q * g) places) y 0 + k) 0) p y (omega arith)
+      ∙ rw (get_or-take, fill_at 0 (λ y. sum_place q e y) f y l, same) (sum_kept bit_at e q g asked.rate asked.bits j y mine l s)
 
   -- one encoder's bits are all
   pub one_coded : {d d₁ : List ℕ} → e ≡ 1 → Filled 0 0 (λ y. line_kept bit_at e q 0 y) (q * g) d d₁ → Coded bit_at e q (q * g) d d₁

@@ -19,13 +19,11 @@ pub record PlacesAsked (places : List ℕ) (kept encoders count : ℕ) : Type 0 
   pub few : count ≤ most_coded
   pub room : count ≤ length places
 
-pub record PickAsked (coded sums places : List ℕ) (to j count : ℕ) : Type 0 where
-  pub room : to + count ≤ length coded
-  pub few : to + count ≤ most_coded
+pub record PickAsked (coded sums places : List ℕ) (j : ℕ) : Type 0 where
+  pub room : length places ≤ length coded
   pub sized : length sums ≡ 4320
   pub second : j < 2
-  pub near : count ≤ length places
-  pub inside : (y : ℕ) → y < count → get_or places y 0 + j < 4320
+  pub inside : (y : ℕ) → y < length places → get_or places y 0 + j < 4320
 
 -- all encoders' bits of a symbol of `groups` puncturing groups each, from a line of bits
 pub record CodedAsked (coded line : List ℕ) (encoders kept groups : ℕ) : Type 0 where

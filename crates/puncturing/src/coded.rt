@@ -1,44 +1,49 @@
 // Puncturing: where among the sums each kept bit stands, and the coded bits of a symbol.
-ghost use Rattle.std.specs.Prelude.{◌≡◌, ◌+◌, ◌*◌, get_or};
+ghost use Rattle.std.specs.Prelude.{◌≡◌, ◌+◌, ◌*◌, length, get_or};
 ghost use Rattle.laws.specs.Filled.{Filled};
 ghost use Rattle.puncturing.specs.Coded.{sum_place, PlaceAsked, PlacesAsked, PickAsked, CodedAsked, Coded};
 
 use chain::plan::MOST_CODED;
 use encoder::sums::both_sums;
 
-// Where the sum stands that kept bit y of encoder 0 is: each group of `kept` bits is A0 B0 A1 B2 A3 B4, as far as it goes.
-fn sum_place(kept: u16, encoders: u16, y: u16) -> u16
-    requires { PlaceAsked kept encoders y }
-    ensures { result ≡ sum_place kept encoders y }
+// Where the sum stands that kept bit y of encoder 0 is: each group of KEPT bits is A0 B0 A1 B2 A3 B4, as far as it goes.
+fn sum_place<const KEPT: u16>(encoders: u16, y: u16) -> u16
+    requires { PlaceAsked KEPT encoders y }
+    ensures { result ≡ sum_place KEPT encoders y }
 {
-    if kept == 2 {
-        return y % 2 * 2160 + encoders * (y / 2);
-    }
-    if kept == 3 {
-        return y % 3 % 2 * 2160 + encoders * (y - (y + 2) / 3);
-    }
-    if kept == 4 {
-        return y % 2 * 2160 + encoders * (y - (y + 3) / 4);
-    }
-    y % 2 * 2160 + encoders * (y - (y + 5) / 6)
+    y % KEPT % 2 * 2160 + encoders * ((KEPT - 1) * (y / KEPT) + (y % KEPT).saturating_sub(1))
 }
 
-fn sum_places(places: &mut [u16], kept: u16, encoders: u16, count: u16)
+fn sum_places<const KEPT: u16>(places: &mut [u16], encoders: u16, count: u16)
+    requires { PlacesAsked places.old KEPT encoders count }
+    ensures { Filled 0 0 (λ y. sum_place KEPT encoders y) count places.old places.new }
+{
+    for y in 0..count {
+        places[y as usize] = sum_place::<KEPT>(encoders, y);
+    }
+}
+
+fn places_at(places: &mut [u16], kept: usize, encoders: usize, count: usize)
     requires { PlacesAsked places.old kept encoders count }
     ensures { Filled 0 0 (λ y. sum_place kept encoders y) count places.old places.new }
 {
-    for y in 0..count {
-        places[y as usize] = sum_place(kept, encoders, y);
+    let encoders = encoders as u16;
+    let count = count as u16;
+    match kept {
+        2 => sum_places::<2>(places, encoders, count),
+        3 => sum_places::<3>(places, encoders, count),
+        4 => sum_places::<4>(places, encoders, count),
+        _ => sum_places::<6>(places, encoders, count),
     }
 }
 
 // The bits of encoder j: its sums stand j places after those of encoder 0.
-fn pick(coded: &mut [u8], sums: &[u8], places: &[u16], to: usize, j: usize, count: usize)
-    requires { PickAsked coded.old sums.now places.now to j count }
-    ensures { Filled 0 to (λ y. get_or sums.now (get_or places.now y 0 + j) 0) count coded.old coded.new }
+fn pick(coded: &mut [u8], sums: &[u8], places: &[u16], j: usize)
+    requires { PickAsked coded.old sums.now places.now j }
+    ensures { Filled 0 0 (λ y. get_or sums.now (get_or places.now y 0 + j) 0) (length places.now) coded.old coded.new }
 {
-    for y in 0..count {
-        coded[to + y] = sums[places[y] as usize + j];
+    for y in 0..places.len() {
+        coded[y] = sums[places[y] as usize + j];
     }
 }
 
@@ -51,9 +56,10 @@ pub fn coded_bits(coded: &mut [u8], line: &[u8], encoders: usize, kept: usize, g
     let mut places = [0u16; MOST_CODED];
     let share = kept * groups;
     both_sums(&mut sums, line, encoders, encoders * ((kept - 1) * groups));
-    sum_places(&mut places, kept as u16, encoders as u16, share as u16);
-    pick(coded, &sums, &places, 0, 0, share);
+    places_at(&mut places, kept, encoders, share);
+    let places = &places[..share];
+    pick(&mut coded[..share], &sums, places, 0);
     if encoders == 2 {
-        pick(coded, &sums, &places, 1296, 1, share);
+        pick(&mut coded[1296..1296 + share], &sums, places, 1);
     }
 }

@@ -1,3 +1,2 @@
 -- The laws of this crate, file by file.
 pub mod Jumps
-pub mod Repeats

@@ -1,105 +1,58 @@
--- The interleaver's inverse of stream 0 with its divisors written out, and the parser of one stream bit: what the functions of the table compute.
+-- The interleaver's inverse of stream 0 in closed form, and the parser of one stream bit: what the functions of the table compute.
 -- Assumes nothing.
-use mathlib.Core.Path.{◌≡◌, ◌∙◌, sym, subst}
-use mathlib.Core.List.{List}
-use Prim.Native.Nat.{ℕ, ◌+◌, ◌*◌, ◌/◌, ◌%◌, ◌<◌, ◌≤◌}
-use native.Mathlib.Nat.{mul-le-mul}
-use native.Mathlib.Omega.{arith}
-use lib.Dec.{T}
-use lib.ListN.{get_or}
+use Rattle.std.proofs.Common.{◌≡◌, ◌∙◌, refl, sym, List, ℕ, ◌+◌, ◌*◌, ◌/◌, ◌%◌, ◌<◌, ◌≤◌, mul-le-mul, arith, T, get_or}
 use Rattle.laws.specs.Test.{among}
 use Rattle.laws.specs.Claim.{Claim, ◌is◌, ◌under◌, ◌and◌, up_to, each, unless, Holds, sound}
 use Rattle.laws.specs.Filled.{Filled}
-use Rattle.laws.proofs.Filling.{fill_at}
+use Rattle.laws.proofs.Filling.{fill_at, fill_end}
 use Rattle.chain.specs.Plan.{widths, bit_counts, Fits, axis_counts}
 use Rattle.chain.specs.declared.plan.Plan.{Plan}
 use Rattle.chain.specs.Parser.{axis_bits}
 use Rattle.chain.specs.Interleaver.{columns, rows, rotation, block_of, shift_of, source, unrotated, unalternated, by_rows, source_form}
 use Rattle.chain.proofs.Counts.{width_most, bits_most, streams_most, encoders_most, axis_some, axis_most}
 use Rattle.chain.proofs.InterleaverLaws.{source_is, interleaves, plan_block}
-use Rattle.sources.specs.Sources.{coded_slot, label_source}
+use Rattle.sources.specs.Sources.{coded_slot, label_source, Laid}
 
--- bit r at width w, B bits a carrier: f is the closed inverse of stream 0
-abbrev form_claim : (w b : ℕ) (f : ℕ → ℕ) → Claim
-form_claim w b f = up_to (block_of w b) λ r. f r is source_form w b 0 r
+-- the closed inverse of stream 0, over c columns of w rows, with s bits of an axis
+abbrev pub closed : (c w s r : ℕ) → ℕ
+closed c w s r = c * (r % w / s * s + (r + r / w) % s) + r / w
 
-abbrev form_20_1 : ℕ → ℕ
-form_20_1 r = 13 * (r % 4) + r / 4
+-- at every width and B it is the closed inverse of the standard's numbers, over their product
+abbrev closed_claim : Claim
+closed_claim = each widths λ f. each bit_counts λ b.
+    columns f * rows f b is block_of f b
+    and (up_to (block_of f b) λ r. closed (columns f) (rows f b) (axis_bits b) r is source_form f b 0 r)
 
-abbrev form_20_2 : ℕ → ℕ
-form_20_2 r = 13 * (r % 8) + r / 8
-
-abbrev form_20_4 : ℕ → ℕ
-form_20_4 r = 13 * (r % 16 / 2 * 2 + (r + r / 16) % 2) + r / 16
-
-abbrev form_20_6 : ℕ → ℕ
-form_20_6 r = 13 * (r % 24 / 3 * 3 + (r + r / 24) % 3) + r / 24
-
-abbrev forms_20 : Claim
-forms_20 = form_claim 20 1 form_20_1 and form_claim 20 2 form_20_2 and form_claim 20 4 form_20_4 and form_claim 20 6 form_20_6
-
-at_20 : Holds forms_20
+closes : Holds closed_claim
 unfolding source_form unrotated unalternated by_rows columns rows rotation shift_of block_of axis_bits
-at_20 = sound forms_20 tt
+closes = sound closed_claim tt
 
-abbrev form_40_1 : ℕ → ℕ
-form_40_1 r = 18 * (r % 6) + r / 6
+module _ {c w s f b : ℕ} (l : Laid c w s f b) where
+  -- the product is the block
+  pub laid_block : c * w ≡ block_of f b
+  laid_block = rw (l.columns_is, l.rows_is) (closes f l.known_width b l.known_bits).0
 
-abbrev form_40_2 : ℕ → ℕ
-form_40_2 r = 18 * (r % 12) + r / 12
+  -- the closed inverse is the bit that goes to place r
+  pub laid_source : (r : ℕ) → r < c * w → closed c w s r ≡ source f b 0 r
+  laid_source r h =
+      let inside : r < block_of f b = omega (arith, laid_block) in
+      rw (l.columns_is, l.rows_is, l.axis_is) ((closes f l.known_width b l.known_bits).1 r inside)
+      ∙ sym (source_is f b 0 l.known_width l.known_bits (omega arith) r inside)
 
-abbrev form_40_4 : ℕ → ℕ
-form_40_4 r = 18 * (r % 24 / 2 * 2 + (r + r / 24) % 2) + r / 24
+-- the numbers of a width and of B by their names
+pub laid : (f b : ℕ) → T (among widths f) → T (among bit_counts b) → Laid (columns f) (rows f b) (axis_bits b) f b
+laid f b hf hb = record { known_width = hf; known_bits = hb; columns_is = refl; rows_is = refl; axis_is = refl }
 
-abbrev form_40_6 : ℕ → ℕ
-form_40_6 r = 18 * (r % 36 / 3 * 3 + (r + r / 36) % 3) + r / 36
+-- the same of a width and B that are equal to them
+pub laid_is : (f' b' : ℕ) {f b : ℕ} → T (among widths f') → T (among bit_counts b') → f ≡ f' → b ≡ b'
+    → Laid (columns f') (rows f' b') (axis_bits b') f b
+laid_is f' b' hf hb e e' = rw (e, e') (laid f' b' hf hb)
 
-abbrev forms_40 : Claim
-forms_40 = form_claim 40 1 form_40_1 and form_claim 40 2 form_40_2 and form_claim 40 4 form_40_4 and form_claim 40 6 form_40_6
-
-at_40 : Holds forms_40
-unfolding source_form unrotated unalternated by_rows columns rows rotation shift_of block_of axis_bits
-at_40 = sound forms_40 tt
-
--- a closed inverse at a width and a B is the bit that goes to place r
-module _ (w b : ℕ) (hw : T (among widths w)) (hb : T (among bit_counts b)) (f : ℕ → ℕ) (h : Holds (form_claim w b f)) where
-  as_source : (r : ℕ) → r < block_of w b → f r ≡ source w b 0 r
-  as_source r l = h r l ∙ sym (source_is w b 0 hw hb (omega arith) r l)
-
-  form_is : (bits r : ℕ) → bits ≡ b → r < block_of w bits → f r ≡ source w bits 0 r
-  form_is bits r e = subst (λ (k : ℕ). r < block_of w k → f r ≡ source w k 0 r) (sym e) (as_source r)
-
--- the bit of stream 0 at 20 MHz, BPSK
-pub source_20_1 : (bits r : ℕ) → bits ≡ 1 → r < block_of 20 bits → form_20_1 r ≡ source 20 bits 0 r
-source_20_1 = form_is 20 1 tt tt form_20_1 at_20.0
-
--- at 20 MHz, QPSK
-pub source_20_2 : (bits r : ℕ) → bits ≡ 2 → r < block_of 20 bits → form_20_2 r ≡ source 20 bits 0 r
-source_20_2 = form_is 20 2 tt tt form_20_2 at_20.1.0
-
--- at 20 MHz, 16-QAM
-pub source_20_4 : (bits r : ℕ) → bits ≡ 4 → r < block_of 20 bits → form_20_4 r ≡ source 20 bits 0 r
-source_20_4 = form_is 20 4 tt tt form_20_4 at_20.1.1.0
-
--- at 20 MHz, 64-QAM
-pub source_20_6 : (bits r : ℕ) → bits ≡ 6 → r < block_of 20 bits → form_20_6 r ≡ source 20 bits 0 r
-source_20_6 = form_is 20 6 tt tt form_20_6 at_20.1.1.1
-
--- the bit of stream 0 at 40 MHz, BPSK
-pub source_40_1 : (bits r : ℕ) → bits ≡ 1 → r < block_of 40 bits → form_40_1 r ≡ source 40 bits 0 r
-source_40_1 = form_is 40 1 tt tt form_40_1 at_40.0
-
--- at 40 MHz, QPSK
-pub source_40_2 : (bits r : ℕ) → bits ≡ 2 → r < block_of 40 bits → form_40_2 r ≡ source 40 bits 0 r
-source_40_2 = form_is 40 2 tt tt form_40_2 at_40.1.0
-
--- at 40 MHz, 16-QAM
-pub source_40_4 : (bits r : ℕ) → bits ≡ 4 → r < block_of 40 bits → form_40_4 r ≡ source 40 bits 0 r
-source_40_4 = form_is 40 4 tt tt form_40_4 at_40.1.1.0
-
--- at 40 MHz, 64-QAM
-pub source_40_6 : (bits r : ℕ) → bits ≡ 6 → r < block_of 40 bits → form_40_6 r ≡ source 40 bits 0 r
-source_40_6 = form_is 40 6 tt tt form_40_6 at_40.1.1.1
+-- a table of such numbers is that of the width and B
+pub laid_filled : {c w s f b : ℕ} {d₀ d : List ℕ} → Laid c w s f b
+    → ((f b : ℕ) → Laid c w s f b → Filled 0 0 (λ r. source f b 0 r) (c * w) d₀ d)
+    → Filled 0 0 (λ r. source f b 0 r) (block_of f b) d₀ d
+laid_filled l p = fill_end _ _ _ (laid_block l) (p _ _ l)
 
 abbrev small_claim : Claim
 small_claim = each widths λ w. each bit_counts λ b. block_of w b under 649
@@ -155,16 +108,17 @@ module _ (p : Plan) (f : Fits p) where
       omega (arith, (interleaves p.width p.bits 0 f.width f.bits (omega arith)).source_lt r l, small.block)
 
 -- the sources of stream 0, parsed in place, are the table
-pub parsed_table : (p : Plan) (s : ℕ) (d₀ d₁ d₂ : List ℕ) → s ≡ axis_bits p.bits
-    → Filled 0 0 (λ r. source p.width p.bits 0 r) p.block d₀ d₁
-    → Filled 0 0 (λ r. coded_slot s p.streams p.encoders 0 (get_or d₁ r 0)) p.block d₁ d₂
+pub parsed_table : (p : Plan) (f : Fits p) {s e : ℕ} {d₀ d₁ d₂ : List ℕ} → axis_bits p.bits ≡ s → p.encoders ≡ e
+    → Filled 0 0 (λ r. source p.width p.bits 0 r) (block_of p.width p.bits) d₀ d₁
+    → Filled 0 0 (λ r. coded_slot s p.streams e 0 (get_or d₁ r 0)) p.block d₁ d₂
     → Filled 0 0 (λ r. label_source p r) p.block d₀ d₂
-parsed_table p s d₀ d₁ d₂ e one two = record {
+parsed_table p f {s} {e} {d₁ = d₁} axis encoders one two = record {
   same = two.same ∙ one.same;
   done = λ r l.
-      let at : get_or d₁ r 0 ≡ source p.width p.bits 0 r = fill_at 0 (λ k. source p.width p.bits 0 k) one r l in
-      let there : coded_slot s p.streams p.encoders 0 (get_or d₁ r 0) ≡ label_source p r = rw (e, at) in
+      let at : get_or d₁ r 0 ≡ source p.width p.bits 0 r =
+      fill_at 0 (λ k. source p.width p.bits 0 k) one r (omega (arith, plan_block p f)) in
+      let there : coded_slot s p.streams e 0 (get_or d₁ r 0) ≡ label_source p r = rw (at, axis, encoders) in
       two.done r l ∙ there;
   before = λ i l. two.before i l ∙ one.before i l;
-  after = λ i l. two.after i l ∙ one.after i l;
+  after = λ i l. two.after i l ∙ one.after i (omega (arith, plan_block p f));
 }

@@ -1,10 +1,5 @@
 -- The bits of any stream through the table of stream 0's: where they stand among the coded bits. Assumes of the plan that it fits.
-use mathlib.Core.Path.{◌≡◌, ◌∙◌, sym, ap, subst}
-use mathlib.Core.List.{List}
-use mathlib.Core.Logic.{⊎_elim}
-use Prim.Native.Nat.{ℕ, ◌+◌, ◌*◌, ◌/◌, ◌%◌, ◌<◌, ◌≤◌}
-use native.Mathlib.Omega.{arith}
-use lib.ListN.{get_or}
+use Rattle.std.proofs.Common.{◌≡◌, ◌∙◌, sym, ap, subst, List, ⊎_elim, ℕ, ◌+◌, ◌*◌, ◌/◌, ◌%◌, ◌<◌, ◌≤◌, arith, get_or}
 use Rattle.laws.proofs.Radix.{rem_of}
 use Rattle.laws.proofs.Search.{lt_or_le}
 use Rattle.chain.specs.declared.plan.Plan.{Plan}

@@ -1,10 +1,10 @@
 -- Where each label bit stands among a symbol's coded bits, as the code tables it.
-use Rattle.std.specs.Prelude.{List, ℕ, ◌+◌, ◌*◌, ◌<◌, ◌≤◌, T, length, get_or}
+use Rattle.std.specs.Prelude.{◌≡◌, List, ℕ, ◌+◌, ◌*◌, ◌<◌, ◌≤◌, T, length, get_or}
 use Rattle.laws.specs.Test.{among}
 use Rattle.chain.specs.Plan.{widths, bit_counts, encoder_counts, Fits, axis_counts, most_block}
 use Rattle.chain.specs.declared.plan.Plan.{Plan}
 use Rattle.chain.specs.Parser.{axis_bits, encoder_of, index_of}
-use Rattle.chain.specs.Interleaver.{block_of, source}
+use Rattle.chain.specs.Interleaver.{columns, rows, block_of, source}
 
 -- bit k of stream i among the coded bits, those of encoder 1 from 1296 on
 abbrev pub coded_slot : (s streams encoders i k : ℕ) → ℕ
@@ -14,17 +14,30 @@ coded_slot s streams encoders i k = 1296 * encoder_of s encoders k + index_of s 
 abbrev pub label_source : (p : Plan) (r : ℕ) → ℕ
 label_source p r = coded_slot (axis_bits p.bits) p.streams p.encoders 0 (source p.width p.bits 0 r)
 
-pub record SourceAsked (width bits r : ℕ) : Type 0 where
+-- N_COL, N_ROW and s are those of a width and of B bits a carrier
+pub record Laid (n_col n_row s width bits : ℕ) : Type 0 where
   pub known_width : T (among widths width)
   pub known_bits : T (among bit_counts bits)
-  pub inside : r < block_of width bits
+  pub columns_is : n_col ≡ columns width
+  pub rows_is : n_row ≡ rows width bits
+  pub axis_is : s ≡ axis_bits bits
 
-pub record SourcesAsked (table : List ℕ) (width bits count : ℕ) : Type 0 where
+-- what those numbers are within, at every width and B
+pub record Grid (n_col n_row s : ℕ) : Type 0 where
+  pub few_columns : n_col ≤ 18
+  pub some_rows : 0 < n_row
+  pub few_rows : n_row ≤ 36
+  pub some_bits : 0 < s
+  pub few_bits : s ≤ 3
+
+pub record SourceAsked (n_col n_row s r : ℕ) : Type 0 where
+  pub grid : Grid n_col n_row s
+  pub inside : r < n_col * n_row
+
+pub record SourcesAsked (table : List ℕ) (width bits : ℕ) : Type 0 where
   pub known_width : T (among widths width)
   pub known_bits : T (among bit_counts bits)
-  pub inside : count ≤ block_of width bits
-  pub few : count ≤ most_block
-  pub room : count ≤ length table
+  pub room : block_of width bits ≤ length table
 
 pub record ParsedAsked (s streams encoders k : ℕ) : Type 0 where
   pub axis : T (among axis_counts s)

@@ -1,18 +1,50 @@
--- `puncturing::coded::coded_bits`: the bits picked from the sums by their places are the coded bits. Assumes nothing.
-use native.Mathlib.Omega.{arith}
-use Rattle.puncturing.proofs.CodedLaws.{sizes, picked, one_coded, two_coded}
+-- `coded_bits`: the bits picked from the sums by their places are the coded bits.
+use Rattle.std.proofs.Common.{◌≡◌, ◌∙◌, ◌*◌, ◌≤◌, length, take, length-take, get_or-take, ◌<◌, arith}
+use Rattle.std.proofs.lemmas.Grind.{common_steps}
+use Rattle.puncturing.proofs.CodedLaws.{sizes, place_inside, picked, stored_first, stored_from, one_coded, two_coded}
 use Rattle.puncturing.proofs.coded.coded_bits.Goals as goal
+use Rattle.puncturing.proofs.coded.coded_bits.Goals.{After-pick}
+
+module _ (c : After-pick) where
+  -- the places that are read are as many as an encoder's bits
+  read : length (take (c.args.kept * c.args.groups) c.places_at.new.places) ≡ c.args.kept * c.args.groups
+  read = simp length-take (omega (arith, sizes c.requires, c.places_at.ensures.same))
+
+  fits : c.args.kept * c.args.groups ≤ length c.args.coded.now
+  fits = omega (arith, sizes c.requires, c.requires.room)
+
+  -- and so are the first encoder's bits
+  first : length c.pick.new.coded ≡ c.args.kept * c.args.groups
+  first = c.pick.ensures.same ∙ simp length-take (omega (arith, fits))
+
+pub pick-requires-then-encoders-eq2 : goal.pick-requires-then-encoders-eq2
+pick-requires-then-encoders-eq2 c = let p = c.requires in
+    let w = (goal.at.pick-requires-then-encoders-eq2 c).After-pick in
+    record {
+      room = grind (arith, common_steps, first w, read w, (sizes p).halved c.if-encoders-eq2.true, p.room);
+      sized = c.both_sums.ensures.same;
+      second = omega arith;
+      inside = λ y l.
+          let few : y < c.args.kept * c.args.groups = omega (arith, read w) in
+          rw get_or-take (place_inside _ _ _ _ _ p c.places_at.ensures 1 (omega arith) y few);
+    }
 
 pub returns-then-encoders-eq2 : goal.returns-then-encoders-eq2
 returns-then-encoders-eq2 c = let p = c.requires in
+    let w = (goal.at.returns-then-encoders-eq2 c).After-pick in
     let s = c.both_sums.ensures in
+    let t = c.places_at.ensures in
+    let half = (sizes p).halved c.if-encoders-eq2.true in
+    let second : length c.pick-then-encoders-eq2.new.coded ≡ c.args.kept * c.args.groups =
+    grind (arith, common_steps, first w, half, p.room, c.pick-then-encoders-eq2.ensures.same) in
+    let these = picked _ _ _ _ _ p s t 0 0 (omega (arith, sizes p)) (omega arith) (read w) c.pick.ensures in
+    let those = picked _ _ _ _ _ p s t 1 1 (omega arith) (omega arith) (read w) c.pick-then-encoders-eq2.ensures in
     two_coded _ _ _ _ _ p c.if-encoders-eq2.true
-    (picked _ _ _ _ _ p s c.sum_places.ensures 0 0 _ (omega (arith, sizes p)) (omega arith)
-    c.pick.ensures)
-    (picked _ _ _ _ _ p s c.sum_places.ensures 1296 1 _ (omega arith) (omega arith) c.pick-then-encoders-eq2.ensures)
+    (stored_first _ _ _ _ (first w) these (fits w))
+    (stored_from _ _ _ _ second those _ _ (omega arith) (grind (arith, common_steps, first w, half, p.room)))
 
 pub returns-else-encoders-eq2 : goal.returns-else-encoders-eq2
 returns-else-encoders-eq2 c = let p = c.requires in
-    one_coded _ _ _ _ _ p ((sizes p).otherwise c.if-encoders-eq2.false)
-    (picked _ _ _ _ _ p c.both_sums.ensures c.sum_places.ensures 0 0 _ (omega (arith, sizes p)) (omega arith)
-    c.pick.ensures)
+    let w = (goal.at.returns-else-encoders-eq2 c).After-pick in
+    let these = picked _ _ _ _ _ p c.both_sums.ensures c.places_at.ensures 0 0 (omega (arith, sizes p)) (omega arith) (read w) c.pick.ensures in
+    one_coded _ _ _ _ _ p ((sizes p).otherwise c.if-encoders-eq2.false) (stored_first _ _ _ _ (first w) these (fits w))

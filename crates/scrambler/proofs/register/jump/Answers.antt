@@ -1,33 +1,25 @@
--- `jump` makes the jumps of the number's bits, seven at the most.
-use Rattle.chain.proofs.ScramblerLaws.{state_small}
-use Rattle.scrambler.proofs.Jumps.{jumps}
+-- `jump` makes 2^k steps for each bit of the number that is 1.
+use Rattle.std.proofs.Common.{◌≡◌, ◌∙◌, sym, ap, ◌%◌, ◌^◌, arith}
+use Rattle.chain.specs.Scrambler.{state_at}
+use Rattle.chain.proofs.ScramblerLaws.{state_zero, state_small, by_period}
+use Rattle.scrambler.proofs.Jumps.{bit_taken, bit_left}
 use Rattle.scrambler.proofs.register.jump.Goals as goal
+use Rattle.scrambler.proofs.register.jump.Goals.{then-m-k-eq1, else-m-k-eq1}
 
-pub jump_2-requires : goal.jump_2-requires
-jump_2-requires c = rw c.jump_1.ensures (state_small _ _ c.requires)
+pub loop-k-init : goal.loop-k-init
+loop-k-init c = sym (state_zero _) ∙ ap (state_at _) (omega arith)
 
-pub jump_4-requires : goal.jump_4-requires
-jump_4-requires c = rw c.jump_2.ensures (state_small _ _ (rw c.jump_1.ensures (state_small _ _ c.requires)))
+pub leap-state-requires : goal.leap-state-requires
+leap-state-requires c = (rw c.loop-k.invariant (state_small _ _ c.requires), omega arith)
 
-pub jump_8-low-requires : goal.jump_8-low-requires
-jump_8-low-requires c = rw c.jump_4.ensures (state_small _ _ (rw c.jump_2.ensures (state_small _ _ (rw c.jump_1.ensures (state_small _ _ c.requires)))))
-
-pub jump_16-requires : goal.jump_16-requires
-jump_16-requires c = rw c.jump_8-low.ensures (state_small _ _ (rw c.jump_4.ensures (state_small _ _ (rw c.jump_2.ensures (state_small _ _ (rw c.jump_1.ensures (state_small _ _ c.requires)))))))
-
-pub jump_32-requires : goal.jump_32-requires
-jump_32-requires c = rw c.jump_16.ensures (state_small _ _ (rw c.jump_8-low.ensures (state_small _ _ (rw c.jump_4.ensures (state_small _ _ (rw c.jump_2.ensures (state_small _ _ (rw c.jump_1.ensures (state_small _ _ c.requires)))))))))
-
-pub jump_64-requires : goal.jump_64-requires
-jump_64-requires c = rw c.jump_32.ensures (state_small _ _ (rw c.jump_16.ensures (state_small _ _ (rw c.jump_8-low.ensures (state_small _ _ (rw c.jump_4.ensures (state_small _ _ (rw c.jump_2.ensures (state_small _ _ (rw c.jump_1.ensures (state_small _ _ c.requires)))))))))))
+pub loop-k-preserved : goal.loop-k-preserved
+loop-k-preserved c = elim c.if-m-k-eq1.branch [
+  | then-m-k-eq1 w ↦ w.state-is ∙ w.leap-state.ensures ∙ rw c.loop-k.invariant (bit_taken _ _ _ w.if-m-k-eq1.true)
+  | else-m-k-eq1 w ↦ w.state-is ∙ c.loop-k.invariant ∙ bit_left _ _ _ w.if-m-k-eq1.false
+]
 
 pub returns : goal.returns
-returns c = rw (
-  c.jump_64.ensures,
-  c.jump_32.ensures,
-  c.jump_16.ensures,
-  c.jump_8-low.ensures,
-  c.jump_4.ensures,
-  c.jump_2.ensures,
-  c.jump_1.ensures,
-) (jumps _ _ c.requires)
+returns c =
+    let e : c.loop-k.k ≡ 7 = omega arith in
+    let m : c.args.n % 127 % 2 ^ c.loop-k.k ≡ c.args.n % 127 = rw e (omega arith) in
+    c.loop-k.invariant ∙ ap (state_at _) m ∙ by_period _ _ c.requires

@@ -1,38 +1,105 @@
 -- `label_sources`: the interleaver's table, parsed in place, is the table of label sources.
-use mathlib.Core.Path.{subst, sym}
-use Prim.Native.Nat.{ℕ, ◌<◌}
-use native.Mathlib.Omega.{arith}
-use lib.Dec.{T}
+use Rattle.std.proofs.Common.{◌≡◌, ◌∙◌, sym, subst, ℕ, ◌<◌, List, get_or, T, arith}
 use Rattle.laws.specs.Test.{among}
+use Rattle.laws.specs.Filled.{Filled}
 use Rattle.laws.proofs.Filling.{fill_at}
+use Rattle.chain.specs.Plan.{axis_counts, encoder_counts}
 use Rattle.chain.specs.Interleaver.{source}
 use Rattle.chain.proofs.InterleaverLaws.{plan_block}
-use Rattle.chain.proofs.Counts.{axis_known}
-use Rattle.chain.specs.Plan.{axis_counts}
-use Rattle.sources.proofs.SourceLaws.{small, source_small}
+use Rattle.chain.proofs.Counts.{axis_known, encoders_not_one}
+use Rattle.sources.specs.Sources.{coded_slot, label_source, ParseAsked}
+use Rattle.sources.proofs.SourceLaws.{small, source_small, parsed_table, three_left}
 use Rattle.sources.proofs.sources.label_sources.Goals as goal
+use Rattle.sources.proofs.sources.label_sources.Goals.{After-axis_bits}
 
-pub stream_sources-requires : goal.stream_sources-requires
-stream_sources-requires c = record {
-  known_width = c.requires.fits.width;
-  known_bits = c.requires.fits.bits;
-  inside = omega (arith, plan_block c.args.plan c.requires.fits);
-  few = (small c.args.plan c.requires.fits).block;
-  room = c.requires.room;
+pub sources_at-requires : goal.sources_at-requires
+sources_at-requires c = let p = c.requires in record {
+  known_width = p.fits.width;
+  known_bits = p.fits.bits;
+  room = omega (arith, plan_block c.args.plan p.fits);
 }
 
-pub overflow_cast-axis_bits : goal.overflow_cast-axis_bits
-overflow_cast-axis_bits c = omega (arith, small c.args.plan c.requires.fits, c.axis_bits.ensures)
+module _ (c : After-axis_bits) where
+  -- an axis has one bit, two or three
+  axis : T (among axis_counts c.axis_bits.result)
+  axis = subst (λ (s : ℕ). T (among axis_counts s)) (sym c.axis_bits.ensures) (axis_known c.args.plan.bits c.requires.fits.bits)
+
+  three : (c.axis_bits.result ≡ 1 → ⊥) → (c.axis_bits.result ≡ 2 → ⊥) → c.axis_bits.result ≡ 3
+  three = three_left _ axis
+
+  -- there are one encoder or two
+  two : (c.args.plan.encoders ≡ 1 → ⊥) → c.args.plan.encoders ≡ 2
+  two = encoders_not_one _ c.requires.fits.encoders
+
+  -- what the parser is given, by the numbers that an arm has
+  asked : {s e : ℕ} → c.axis_bits.result ≡ s → c.args.plan.encoders ≡ e
+      → ParseAsked c.sources_at.new.table s c.args.plan.streams e c.args.plan.block
+  asked bits encoders =
+      let p = c.args.plan in
+      let f = c.requires.fits in
+      let t = c.sources_at.ensures in
+      record {
+        axis = subst (λ (s : ℕ). T (among axis_counts s)) bits axis;
+        few_streams = (small p f).streams;
+        one_or_two = subst (λ (e : ℕ). T (among encoder_counts e)) encoders f.encoders;
+        few = (small p f).block;
+        room = omega (arith, t.same, c.requires.room);
+        inside = λ r h.
+            let at = fill_at 0 (λ k. source p.width p.bits 0 k) t r (omega (arith, plan_block p f)) in
+            subst (λ (k : ℕ). k < 648) (sym at) (source_small p f r h);
+      }
+
+  -- what it leaves
+  tabled : {s e : ℕ} {d : List ℕ} → c.axis_bits.result ≡ s → c.args.plan.encoders ≡ e
+      → Filled 0 0 (λ r. coded_slot s c.args.plan.streams e 0 (get_or c.sources_at.new.table r 0)) c.args.plan.block
+      c.sources_at.new.table d
+      → Filled 0 0 (λ r. label_source c.args.plan r) c.args.plan.block c.args.table.now d
+  tabled bits encoders = parsed_table c.args.plan c.requires.fits (sym c.axis_bits.ensures ∙ bits) encoders c.sources_at.ensures
 
 pub parse-requires : goal.parse-requires
-parse-requires c = let p = c.args.plan in
-    let t = c.stream_sources.ensures in
-    record {
-      axis = subst (λ (s : ℕ). T (among axis_counts s)) (sym c.axis_bits.ensures) (axis_known p.bits c.requires.fits.bits);
-      few_streams = (small p c.requires.fits).streams;
-      one_or_two = c.requires.fits.encoders;
-      few = (small p c.requires.fits).block;
-      room = omega (arith, t.same);
-      inside = λ r h.
-          subst (λ (k : ℕ). k < 648) (sym (fill_at 0 (λ k. source p.width p.bits 0 k) t r h)) (source_small p c.requires.fits r h);
-    }
+parse-requires c = let w = (goal.at.parse-requires c).After-axis_bits in
+    asked w c.in-1-eq1.is-0 c.in-1-eq1.is-1
+
+pub parse-requires-in-2-eq1 : goal.parse-requires-in-2-eq1
+parse-requires-in-2-eq1 c = let w = (goal.at.parse-requires-in-2-eq1 c).After-axis_bits in
+    asked w c.in-2-eq1.is-0 c.in-2-eq1.is-1
+
+pub parse-requires-in_default-eq1 : goal.parse-requires-in_default-eq1
+parse-requires-in_default-eq1 c = let w = (goal.at.parse-requires-in_default-eq1 c).After-axis_bits in
+    asked w (three w c.in_default-eq1.is-0.0.1 c.in_default-eq1.is-0.1) c.in_default-eq1.is-1
+
+pub parse-requires-in-1-default : goal.parse-requires-in-1-default
+parse-requires-in-1-default c = let w = (goal.at.parse-requires-in-1-default c).After-axis_bits in
+    asked w c.in-1-default.is-0 (two w c.in-1-default.is-1.1)
+
+pub parse-requires-in-2-default : goal.parse-requires-in-2-default
+parse-requires-in-2-default c = let w = (goal.at.parse-requires-in-2-default c).After-axis_bits in
+    asked w c.in-2-default.is-0 (two w c.in-2-default.is-1.1)
+
+pub parse-requires-in_default : goal.parse-requires-in_default
+parse-requires-in_default c = let w = (goal.at.parse-requires-in_default c).After-axis_bits in
+    asked w (three w c.in_default.is-0.0.1 c.in_default.is-0.1) (two w c.in_default.is-1.1)
+
+pub returns-in-1-eq1 : goal.returns-in-1-eq1
+returns-in-1-eq1 c = let w = (goal.at.returns-in-1-eq1 c).After-axis_bits in
+    tabled w c.in-1-eq1.is-0 c.in-1-eq1.is-1 c.parse.ensures
+
+pub returns-in-2-eq1 : goal.returns-in-2-eq1
+returns-in-2-eq1 c = let w = (goal.at.returns-in-2-eq1 c).After-axis_bits in
+    tabled w c.in-2-eq1.is-0 c.in-2-eq1.is-1 c.parse-in-2-eq1.ensures
+
+pub returns-in_default-eq1 : goal.returns-in_default-eq1
+returns-in_default-eq1 c = let w = (goal.at.returns-in_default-eq1 c).After-axis_bits in
+    tabled w (three w c.in_default-eq1.is-0.0.1 c.in_default-eq1.is-0.1) c.in_default-eq1.is-1 c.parse-in_default-eq1.ensures
+
+pub returns-in-1-default : goal.returns-in-1-default
+returns-in-1-default c = let w = (goal.at.returns-in-1-default c).After-axis_bits in
+    tabled w c.in-1-default.is-0 (two w c.in-1-default.is-1.1) c.parse-in-1-default.ensures
+
+pub returns-in-2-default : goal.returns-in-2-default
+returns-in-2-default c = let w = (goal.at.returns-in-2-default c).After-axis_bits in
+    tabled w c.in-2-default.is-0 (two w c.in-2-default.is-1.1) c.parse-in-2-default.ensures
+
+pub returns-in_default : goal.returns-in_default
+returns-in_default c = let w = (goal.at.returns-in_default c).After-axis_bits in
+    tabled w (three w c.in_default.is-0.0.1 c.in_default.is-0.1) (two w c.in_default.is-1.1) c.parse-in_default.ensures

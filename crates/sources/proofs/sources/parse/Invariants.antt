@@ -1,9 +1,10 @@
 -- `parse` makes one stream bit a coded bit a turn.
-use Prim.Native.Nat.{◌-◌, ◌≤◌}
-use lib.ListN.{get_or}
+use Rattle.std.proofs.Common.{ℕ, get_or}
 use Rattle.laws.specs.Filled.{Filled}
 use Rattle.sources.specs.Sources.{coded_slot}
 use Rattle.sources.proofs.sources.parse.Given as goal
 
-abbrev pub invariant-loop-r : goal.invariant-loop-r
-invariant-loop-r l = (l.r ≤ l.count) × Filled 0 0 (λ k. coded_slot l.s l.streams l.encoders 0 (get_or l.initial.table k 0)) l.r l.initial.table l.table
+abbrev pub invariant-loop-entry : goal.invariant-loop-entry
+invariant-loop-entry g l =
+    let bit = λ (k : ℕ). get_or l.initial.entry-items k 0 in
+    Filled 0 0 (λ k. coded_slot g.row.S l.streams g.row.ENCODERS 0 (bit k)) l.entry-index l.initial.entry-items l.entry-items
