@@ -4,7 +4,7 @@ use mathlib.Core.Path.{◌≡◌, ◌∙◌, refl, sym, ap, ap₂, subst}
 use mathlib.Core.List.{List}
 use mathlib.Core.Logic.{⊎_elim}
 use Prim.Native.Nat.{ℕ, ◌+◌, ◌*◌, ◌/◌, ◌%◌, ◌<◌, ◌≤◌}
-use native.Mathlib.Nat.{mul-le-mul, mul-le-mul_right, not-suc-le-zero}
+use native.Mathlib.Nat.{mul-le-mul, mul-le-mul_right}
 use native.Mathlib.Omega.{arith}
 use lib.Arith.{digits_lt}
 use lib.Dec.{T}
@@ -12,10 +12,10 @@ use lib.ListN.{length, get_or}
 use Rattle.laws.specs.Test.{among}
 use Rattle.laws.specs.Claim.{Claim, ◌is◌, ◌under◌, ◌and◌, up_to, each, given, unless, Holds, sound}
 use Rattle.laws.specs.Filled.{Filled}
-use Rattle.laws.proofs.Filling.{fill_as, fill_end, fill_join}
+use Rattle.laws.proofs.Filling.{fill_as, fill_end, fill_from, fill_join}
 use Rattle.laws.proofs.Radix.{quot_of}
 use Rattle.laws.proofs.Search.{lt_or_le}
-use Rattle.chain.specs.Plan.{widths, bit_counts, encoder_counts, kept_counts, Fits, axis_counts}
+use Rattle.chain.specs.Plan.{widths, bit_counts, Fits, axis_counts}
 use Rattle.chain.specs.declared.plan.Plan.{Plan}
 use Rattle.chain.specs.Parser.{axis_bits, encoder_of, index_of}
 use Rattle.chain.specs.Interleaver.{rotation, shift_of, source}
@@ -23,18 +23,11 @@ use Rattle.chain.specs.Labels.{written, halves_of}
 use Rattle.chain.proofs.ParserLaws.{parses}
 use Rattle.chain.proofs.InterleaverLaws.{shift_lt, stream_below_four, plan_block, interleaves_plan}
 use Rattle.chain.proofs.Counts.{carriers_few, axis_known, bits_some}
-use Rattle.chain.proofs.LabelLaws.{written_from, halves_most}
+use Rattle.chain.proofs.LabelLaws.{written_from}
 use Rattle.sources.specs.Sources.{label_source}
 use Rattle.sources.proofs.SourceLaws.{small}
 use Rattle.sources.proofs.TableLaws.{coded_room, place_there, turned_bit}
-use Rattle.coding.specs.Halves.{half_at, label_in, half_in, HalfAsked, HalfRunAsked, HalvesFilled}
-
--- bit t of half m is in the table, and what stands there among the coded bits
-pub bit_asked : {coded table : List ℕ} {s shift m : ℕ} → HalfAsked coded table s shift m
-    → (n t r : ℕ) → s ≡ n → t < n → r ≡ m * n + t → (r < length table) × (get_or table r 0 + shift < length coded)
-bit_asked {s = s} {m = m} h n t r e l f =
-    let g : r ≡ m * s + t = f ∙ ap (λ (k : ℕ). m * k + t) (sym e) in
-    (rw g (h.inside t (omega arith)), rw g (h.reached t (omega arith)))
+use Rattle.coding.specs.Halves.{half_at, label_in, half_in, HalfRunAsked, HalvesFilled}
 
 -- a half label of one bit
 pub one_bit_lem : (f : ℕ → ℕ) (s m a : ℕ) → s ≡ 1 → a ≡ f m → a ≡ written f (m * s) s
@@ -60,26 +53,6 @@ three_bits_lem f s m a b d e first second third =
     let next : f (3 * m + 1) ≡ f (m * 3 + 1) = ap f (omega arith) in
     let last : f (3 * m + 2) ≡ f (m * 3 + 2) = ap f (omega arith) in
     rw e (omega (arith, first ∙ at, second ∙ next, third ∙ last))
-
--- what a run asks, each of its halves asks
-pub run_asked : {halves coded table : List ℕ} {s shift to from count : ℕ} → HalfRunAsked halves coded table s shift to from count
-    → (m : ℕ) → m < count → HalfAsked coded table s shift (from + m)
-run_asked {s = s} {from = from} {count = count} h m l = record {
-  axis = h.axis;
-  few = omega arith;
-  inside = λ t b. omega (arith, at t b);
-  reached = λ t b. h.reached ((from + m) * s + t) (at t b);
-}
-  where
-    at : (t : ℕ) → t < s → (from + m) * s + t < (from + count) * s
-    at t b = digits_lt (omega arith) b
-
-abbrev group_claim : Claim
-group_claim = each encoder_counts λ e. each kept_counts λ q. 0 under e * q and e * q under 13
-
--- the coded bits that one group takes of a symbol: some, and few
-pub group_size : Holds group_claim
-group_size = sound group_claim tt
 
 -- half labels of a number of carriers, as they are counted
 abbrev pub Counted : (bits carriers n : ℕ) → Type 0
@@ -122,34 +95,50 @@ pub record Turned (p : Plan) (i s count first : ℕ) : Type 0 where
   pub less : first < count
   pub few : count ≤ 216
 
--- two runs, from `first` to the end and from 0 to `first`, one after the other from `begin` on
-pub record TwoRuns (begin count first to from n to' from' n' : ℕ) : Type 0 where
-  pub begins : to ≡ begin
-  pub from_first : from ≡ first
-  pub to_the_end : from + n ≡ count
-  pub goes_on : to' ≡ begin + n
-  pub from_zero : from' ≡ 0
-  pub all : n + n' ≡ count
-
 module _ (p : Plan) (f : Fits p) where
   -- a plan has few carriers
   pub carriers_most : p.carriers ≤ 108
   carriers_most = omega (arith, f.carriers_is, carriers_few p.width)
 
+  -- the halves that the code counts of all carriers are a stream's
+  pub counted_halves : (count : ℕ) → Counted p.bits p.carriers count → count ≡ halves_of p
+  counted_halves count e =
+      sym (quot_of (axis_bits p.bits) count 0 p.block (small p f).axis_least
+      (f.block_is ∙ sym (halves_times p.bits p.carriers count f.bits e) ∙ omega arith))
+
+  halves_counted : Counted p.bits p.carriers (halves_of p)
+  halves_counted =
+      ⊎_elim
+      (λ (l : p.bits < 2). counted p.carriers (λ h. refl) (λ h. absurd (omega arith)))
+      (λ (l : 2 ≤ p.bits). counted (2 * p.carriers) (λ h. absurd (omega arith)) (λ h. refl))
+      (lt_or_le p.bits 2)
+    where
+      counted : (n : ℕ) → (p.bits < 2 → n ≡ p.carriers) → (2 ≤ p.bits → n ≡ 2 * p.carriers) → Counted p.bits p.carriers (halves_of p)
+      counted n one two = subst (λ (k : ℕ). Counted p.bits p.carriers k) (counted_halves n (one, two)) (one, two)
+
   module _ (i : ℕ) (hi : i < p.streams) where
+    -- a stream's halves are among the streams' halves
+    pub stream_room : (count : ℕ) → count ≡ halves_of p → (i + 1) * count ≤ p.streams * halves_of p
+    stream_room count e = rw e (mul-le-mul_right (halves_of p) (omega arith))
+
     -- a stream is rotated by at most 108 carriers
     pub rotated_few : (n : ℕ) → n ≡ (i * 2 % 3 + 3 * (i / 3)) * rotation p.width → n ≤ 108
     rotated_few n e = omega (arith, e, turns p.width f.width i (stream_below_four p f i hi))
 
+    -- a stream's bits stand a few places on
+    pub shift_few : (s : ℕ) → s ≡ axis_bits p.bits → i * s ≤ 12
+    shift_few s e = mul-le-mul {n₂ = 4} {m₂ = 3} (omega (arith, stream_below_four p f i hi)) (omega (arith, e, small p f))
+
     -- what the code counts
-    pub turned : (s count carriers first : ℕ) → s ≡ axis_bits p.bits → Counted p.bits p.carriers count
+    pub turned : (s count carriers first : ℕ) → s ≡ axis_bits p.bits → count ≡ halves_of p
         → carriers ≡ (i * 2 % 3 + 3 * (i / 3)) * rotation p.width → Counted p.bits carriers first → Turned p i s count first
     unfolding shift_of
-    turned s count carriers first axis counted Rotated-by begun =
+    turned s count carriers first axis own rotated begun =
+        let counted : Counted p.bits p.carriers count = subst (λ (k : ℕ). Counted p.bits p.carriers k) (sym own) halves_counted in
         let whole : count * s ≡ p.block =
         ap (λ (x : ℕ). count * x) axis ∙ halves_times p.bits p.carriers count f.bits counted ∙ sym f.block_is in
         let shift_is : first * s ≡ shift_of p.width p.bits i =
-        ap (λ (x : ℕ). first * x) axis ∙ halves_times p.bits carriers first f.bits begun ∙ ap (λ (x : ℕ). x * p.bits) Rotated-by in
+        ap (λ (x : ℕ). first * x) axis ∙ halves_times p.bits carriers first f.bits begun ∙ ap (λ (x : ℕ). x * p.bits) rotated in
         let below : first * s < count * s = omega (
           arith,
           plan_block p f,
@@ -159,8 +148,7 @@ module _ (p : Plan) (f : Fits p) where
         ) in
         record {
           axis_is = axis;
-          count_is = sym (quot_of (axis_bits p.bits) count 0 p.block (small p f).axis_least
-              (sym whole ∙ ap (λ (x : ℕ). count * x) axis ∙ omega arith));
+          count_is = own;
           whole = whole;
           shift_is = shift_is;
           less = ⊎_elim (λ (l : first < count). l) (λ (l : count ≤ first). absurd (omega (arith, below, mul-le-mul_right s l))) (lt_or_le first count);
@@ -168,20 +156,6 @@ module _ (p : Plan) (f : Fits p) where
         }
 
     module _ {s count first : ℕ} (t : Turned p i s count first) where
-      -- the stream's halves are among the streams' halves
-      pub stream_room : i * count + count ≤ p.streams * halves_of p
-      stream_room =
-          let more : (i + 1) * count ≤ p.streams * count = mul-le-mul_right count (omega arith) in
-          omega (arith, more, ap (λ (x : ℕ). p.streams * x) t.count_is)
-
-      -- and those are few
-      pub stream_near : i * count + count ≤ 864
-      stream_near = omega (arith, stream_room, halves_most p f)
-
-      -- a stream's bits stand a few places on
-      pub shift_few : i * s ≤ 12
-      shift_few = mul-le-mul {n₂ = 4} {m₂ = 3} (omega (arith, stream_below_four p f i hi)) (omega (arith, t.axis_is, small p f))
-
       module _ (table : List ℕ) (tabled : (r : ℕ) → r < p.block → get_or table r 0 ≡ label_source p r) where
         -- the code's number of bits of an axis
         on : (r : ℕ) → get_or table r 0 + i * s ≡ get_or table r 0 + i * axis_bits p.bits
@@ -217,40 +191,30 @@ module _ (p : Plan) (f : Fits p) where
             turn k = omega (arith, ap (λ (x : ℕ). x * s) e, ap (λ (x : ℕ). g * x) t.whole, t.shift_is)
 
         -- the halves from `first` on and then those before it are stream i's
-        pub turned_halves : (coded h₀ h₁ h₂ : List ℕ) {to from n to' from' n' : ℕ}
-            → Filled 0 to (λ m. half_at coded table s (i * s) (from + m)) n h₀ h₁
-            → Filled 0 to' (λ m. half_at coded table s (i * s) (from' + m)) n' h₁ h₂
-            → TwoRuns (i * count) count first to from n to' from' n'
-            → Filled 0 (i * halves_of p) (λ m. half_in p coded i m) (halves_of p) h₀ h₂
-        turned_halves coded h₀ h₁ h₂ {to} {from} {n} {to'} {from'} {n'} one two e =
+        pub turned_halves : (coded : List ℕ) {h₀ h₁ h₂ : List ℕ} {n : ℕ} → n + first ≡ count
+            → Filled 0 0 (λ m. half_at coded table s (i * s) (first + m)) n h₀ h₁
+            → Filled 0 n (λ m. half_at coded table s (i * s) (0 + m)) first h₁ h₂
+            → Filled 0 0 (half_in p coded i) (halves_of p) h₀ h₂
+        turned_halves coded {h₀} {h₁} {h₂} {n} all one two =
             let less = t.less in
-            let one' : Filled 0 (i * count) (λ m. half_in p coded i m) n h₀ h₁ =
-            rw (sym e.begins) (fill_as 0 to _ _ n h₀ h₁
-            (λ m l. turned_half coded m (from + m) 0 (omega arith) (omega arith) (omega arith)) one) in
-            let two' : Filled 0 (i * count + n) (λ m. half_in p coded i (n + m)) n' h₁ h₂ =
-            rw (sym e.goes_on) (fill_as 0 to' _ _ n' h₁ h₂
-            (λ m l. turned_half coded (n + m) (from' + m) 1 (omega arith) (omega arith) (omega arith)) two) in
-            subst (λ (k : ℕ). Filled 0 (i * k) (λ m. half_in p coded i m) k h₀ h₂) t.count_is
-            (fill_end 0 (i * count) (λ m. half_in p coded i m) e.all (fill_join 0 (i * count) (λ m. half_in p coded i m) n n' h₀ h₁ h₂ one' two'))
+            fill_end 0 0 (half_in p coded i) (all ∙ t.count_is)
+            (fill_join 0 0 (half_in p coded i) n first h₀ h₁ h₂
+            (fill_as 0 0 _ _ n h₀ h₁ (λ m l. turned_half coded m (first + m) 0 (omega arith) (omega arith) (omega arith)) one)
+            (fill_from 0 _ (omega arith)
+            (fill_as 0 n _ _ first h₁ h₂ (λ m l. turned_half coded (n + m) (0 + m) 1 (omega arith) (omega arith) (omega arith)) two)))
 
         -- what a run within the stream's halves asks
-        pub turned_run : {halves coded : List ℕ} (to from n : ℕ) → p.streams * halves_of p ≤ length halves → length coded ≡ 2592
-            → p.block ≤ length table → from + n ≤ count → to + n ≤ i * count + count → HalfRunAsked halves coded table s (i * s) to from n
-        turned_run {halves} {coded} to from n room sized wide low high =
-            let bits : (from + n) * s ≤ count * s = mul-le-mul_right s low in
+        pub turned_run : {halves coded : List ℕ} (from : ℕ) → length coded ≡ 2592 → p.block ≤ length table → from + length halves ≤ count
+            → HalfRunAsked halves coded table s (i * s) from
+        turned_run {halves} {coded} from sized wide low =
+            let bits : (from + length halves) * s ≤ count * s = mul-le-mul_right s low in
             let whole = t.whole in
             record {
               axis = subst (λ (x : ℕ). T (among axis_counts x)) (sym t.axis_is) (axis_known p.bits f.bits);
               few = omega (arith, t.few);
-              room = omega (arith, stream_room);
-              near = omega (arith, stream_near);
               inside = omega arith;
               reached = λ r l. omega (arith, reached r (omega arith), sized);
             }
-
--- before the first stream
-pub halves_none : (p : Plan) (f : ℕ → ℕ → ℕ) (h : List ℕ) → HalvesFilled p f 0 h h
-halves_none p f h = record { same = refl; done = λ i m l b. absurd (not-suc-le-zero l); rest = λ k l. refl }
 
 -- one stream more
 pub halves_more : (p : Plan) (f : ℕ → ℕ → ℕ) (i : ℕ) (h₀ h h' : List ℕ) → HalvesFilled p f i h₀ h
@@ -265,7 +229,3 @@ halves_more p f i h₀ h h' past new = record {
       (lt_or_le j i);
   rest = λ k l. new.after k (omega arith) ∙ past.rest k (omega arith);
 }
-
--- the count by another name, as at the loop's end
-pub halves_end : {p : Plan} {f : ℕ → ℕ → ℕ} {n m : ℕ} {h₀ h : List ℕ} → n ≡ m → HalvesFilled p f n h₀ h → HalvesFilled p f m h₀ h
-halves_end {p} {f} {h₀ = h₀} {h = h} e filled = subst (λ (k : ℕ). HalvesFilled p f k h₀ h) e filled

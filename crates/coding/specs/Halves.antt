@@ -25,13 +25,11 @@ pub record HalfAsked (coded table : List ℕ) (s shift m : ℕ) : Type 0 where
   pub inside : (t : ℕ) → t < s → m * s + t < length table
   pub reached : (t : ℕ) → t < s → get_or table (m * s + t) 0 + shift < length coded
 
-pub record HalfRunAsked (halves coded table : List ℕ) (s shift to from count : ℕ) : Type 0 where
+pub record HalfRunAsked (halves coded table : List ℕ) (s shift from : ℕ) : Type 0 where
   pub axis : T (among axis_counts s)
-  pub few : from + count ≤ most_block
-  pub room : to + count ≤ length halves
-  pub near : to + count ≤ 864
-  pub inside : (from + count) * s ≤ length table
-  pub reached : (r : ℕ) → r < (from + count) * s → get_or table r 0 + shift < length coded
+  pub few : from + length halves ≤ most_block
+  pub inside : (from + length halves) * s ≤ length table
+  pub reached : (r : ℕ) → r < (from + length halves) * s → get_or table r 0 + shift < length coded
 
 -- all labels of a symbol from its coded bits
 pub record HalvesAsked (halves coded : List ℕ) (p : Plan) : Type 0 where
@@ -39,10 +37,10 @@ pub record HalvesAsked (halves coded : List ℕ) (p : Plan) : Type 0 where
   pub room : p.streams * halves_of p ≤ length halves
   pub sized : length coded ≡ most_coded
 
--- the same, with the table of label sources at hand, for stream i
+-- the same, with the table of label sources at hand, for the halves of stream i
 pub record HalfStreamAsked (halves coded table : List ℕ) (p : Plan) (i : ℕ) : Type 0 where
   pub fits : Fits p
-  pub room : p.streams * halves_of p ≤ length halves
+  pub own : length halves ≡ halves_of p
   pub sized : length coded ≡ most_coded
   pub stream : i < p.streams
   pub wide_enough : p.block ≤ length table

@@ -10,47 +10,48 @@ ghost use Rattle.coding.specs.Halves.{half_at, half_in, HalfAsked, HalfRunAsked,
 use chain::plan::{MOST_BLOCK, MOST_CODED, MOST_LINE, Plan, axis_bits};
 use inputs::line::coder_inputs;
 use puncturing::coded::coded_bits;
-use sources::sources::{label_sources, source_index};
+use sources::sources::label_sources;
 
-// The coded bit at a place of the table, `shift` places on.
-fn coded_at(coded: &[u8], table: &[u16], shift: usize, r: usize) -> u8
-    requires { (r < length table.now) × (get_or table.now r 0 + shift < length coded.now) }
-    ensures { result ≡ get_or coded.now (get_or table.now r 0 + shift) 0 % 2 }
-{
-    coded[source_index(table[r]) + shift] % 2
-}
-
-// Half label m, the first bit the highest.
-fn half(coded: &[u8], table: &[u16], s: usize, shift: usize, m: usize) -> u8
-    requires { HalfAsked coded.now table.now s shift m }
-    ensures { result ≡ half_at coded.now table.now s shift m }
-{
-    if s == 1 {
-        return coded_at(coded, table, shift, m);
-    }
-    if s == 2 {
-        return coded_at(coded, table, shift, 2 * m) * 2 + coded_at(coded, table, shift, 2 * m + 1);
-    }
-    coded_at(coded, table, shift, 3 * m) * 4
-        + coded_at(coded, table, shift, 3 * m + 1) * 2
-        + coded_at(coded, table, shift, 3 * m + 2)
-}
-
-fn run(
-    halves: &mut [u8],
-    coded: &[u8],
-    table: &[u16],
-    s: usize,
+// Where the label bits of one stream stand among the coded bits: `shift` places after those of the table, `axis` bits for a half label.
+#[derive(Clone, Copy)]
+struct StreamBits<'a> {
+    coded: &'a [u8],
+    table: &'a [u16],
+    axis: usize,
     shift: usize,
-    to: usize,
-    from: usize,
-    count: usize,
-)
-    requires { HalfRunAsked halves.old coded.now table.now s shift to from count }
-    ensures { Filled 0 to (λ m. half_at coded.now table.now s shift (from + m)) count halves.old halves.new }
-{
-    for m in 0..count {
-        halves[to + m] = half(coded, table, s, shift, from + m);
+}
+
+impl StreamBits<'_> {
+    // The coded bit for a place of the table.
+    fn bit(&self, r: usize) -> u8
+        requires { (r < length self.now.table.now) × (get_or self.now.table.now r 0 + self.now.shift < length self.now.coded.now) }
+        ensures { result ≡ get_or self.now.coded.now (get_or self.now.table.now r 0 + self.now.shift) 0 % 2 }
+    {
+        self.coded[usize::from(self.table[r]) + self.shift] % 2
+    }
+
+    // Half label m, the first bit the highest.
+    fn half(&self, m: usize) -> u8
+        requires { HalfAsked self.now.coded.now self.now.table.now self.now.axis self.now.shift m }
+        ensures { result ≡ half_at self.now.coded.now self.now.table.now self.now.axis self.now.shift m }
+    {
+        if self.axis == 1 {
+            return self.bit(m);
+        }
+        if self.axis == 2 {
+            return self.bit(2 * m) * 2 + self.bit(2 * m + 1);
+        }
+        self.bit(3 * m) * 4 + self.bit(3 * m + 1) * 2 + self.bit(3 * m + 2)
+    }
+
+    // Half labels from one of them on.
+    fn put(&self, halves: &mut [u8], from: usize)
+        requires { HalfRunAsked halves.old self.now.coded.now self.now.table.now self.now.axis self.now.shift from }
+        ensures { Filled 0 0 (λ m. half_at self.now.coded.now self.now.table.now self.now.axis self.now.shift (from + m)) (length halves.old) halves.old halves.new }
+    {
+        for m in 0..halves.len() {
+            halves[m] = self.half(from + m);
+        }
     }
 }
 
@@ -60,8 +61,7 @@ pub fn rotated_carriers(width: usize, stream: usize) -> usize
     ensures { result ≡ (stream * 2 % 3 + 3 * (stream / 3)) * rotation width }
 {
     let turns = stream * 2 % 3 + 3 * (stream / 3);
-    let wide_channel = width == 40;
-    if wide_channel { turns * 29 } else { turns * 11 }
+    if width == 40 { turns * 29 } else { turns * 11 }
 }
 
 // Half labels of a number of carriers: two of each, one where a label is one bit.
@@ -75,15 +75,19 @@ fn halves_of(bits: usize, carriers: usize) -> usize
 // Stream i's half labels: the table's, from the stream's rotation on and round.
 fn stream_halves(halves: &mut [u8], coded: &[u8], table: &[u16], plan: Plan, i: usize)
     requires { HalfStreamAsked halves.old coded.now table.now plan i }
-    ensures { Filled 0 (i * halves_of plan) (λ m. half_in plan coded.now i m) (halves_of plan) halves.old halves.new }
+    ensures { Filled 0 0 (half_in plan coded.now i) (halves_of plan) halves.old halves.new }
 {
-    let s = axis_bits(plan.bits);
-    let count = halves_of(plan.bits, plan.carriers);
+    let axis = axis_bits(plan.bits);
+    let bits = StreamBits {
+        coded,
+        table,
+        axis,
+        shift: i * axis,
+    };
     let first = halves_of(plan.bits, rotated_carriers(plan.width, i));
-    let to = i * count;
-    let rest = count - first;
-    run(halves, coded, table, s, i * s, to, first, rest);
-    run(halves, coded, table, s, i * s, to + rest, 0, first);
+    let rest = halves.len() - first;
+    bits.put(&mut halves[..rest], first);
+    bits.put(&mut halves[rest..], 0);
 }
 
 // All streams' half labels from a symbol's coded bits.
@@ -93,9 +97,16 @@ fn symbol_halves(halves: &mut [u8], coded: &[u8], plan: Plan)
 {
     let mut table = [0u16; MOST_BLOCK];
     label_sources(&mut table, plan);
+    let count = halves_of(plan.bits, plan.carriers);
     let streams = plan.streams;
     for i in 0..streams {
-        stream_halves(halves, coded, &table, plan, i);
+        stream_halves(
+            &mut halves[i * count..(i + 1) * count],
+            coded,
+            &table,
+            plan,
+            i,
+        );
     }
 }
 

@@ -38,8 +38,7 @@ pub part_put : (payload raw₀ ys : List ℕ) (p q low high : ℕ) → low ≤ h
 part_put payload raw₀ ys p q low high o e whole room put =
     let sized = length-between payload p q whole in
     fill_as 0 (8 * low) _ _ _ raw₀ _ (λ k h. part_bit payload p q k (omega arith))
-    (fill_lent 0 (8 * low) _ _ (8 * high - 8 * low) raw₀ (omega arith) (omega arith)
-    (fill_end 0 0 _ (omega (arith, length-between raw₀ (8 * low) (8 * high) room)) put))
+    (fill_lent 0 (8 * low) _ (8 * (high - low)) (8 * high - 8 * low) raw₀ (omega arith) (omega arith) (fill_end 0 0 _ (omega arith) put))
 
 -- bit j from byte `from` on by its number in the payload
 place : (from low j : ℕ) → 2 ≤ from + low → 8 * low ≤ j → 8 * (from + low - 2) + (j - 8 * low) ≡ 8 * from + j - 16

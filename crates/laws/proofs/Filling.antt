@@ -75,10 +75,17 @@ fill_part z a f n k d₀ ys room sized e g = record {
 
 -- a part that a call was lent and filled
 pub fill_lent : {A : Type 0} (z : A) (a : ℕ) (f : ℕ → A) (n k : ℕ) (d₀ : List A) {ys : List A} → a + k ≤ length d₀ → n ≡ k
-    → Filled z 0 f (length (mid_of a k d₀)) (mid_of a k d₀) ys → Filled z a f n d₀ (put_mid a k d₀ ys)
+    → Filled z 0 f n (mid_of a k d₀) ys → Filled z a f n d₀ (put_mid a k d₀ ys)
 fill_lent z a f n k d₀ {ys = ys} room e p =
     let sized : length (mid_of a k d₀) ≡ k = simp (length-take, length-drop) (omega arith) in
     fill_part z a f n k d₀ ys room (p.same ∙ sized) e (λ i l. fill_at z f p i (omega arith))
+
+-- the same, of a call that promises as many elements as the part is long
+pub fill_lent_all : {A : Type 0} (z : A) (a : ℕ) (f : ℕ → A) (n k : ℕ) (d₀ : List A) {ys : List A} → a + k ≤ length d₀ → n ≡ k
+    → Filled z 0 f (length (mid_of a k d₀)) (mid_of a k d₀) ys → Filled z a f n d₀ (put_mid a k d₀ ys)
+fill_lent_all z a f n k d₀ room e p =
+    let sized : length (mid_of a k d₀) ≡ n = simp (length-take, length-drop) (omega arith) in
+    fill_lent z a f n k d₀ room e (fill_end z 0 f sized p)
 
 -- a part that `fill` writes over
 pub fill_same : {A : Type 0} (z : A) (a : ℕ) (v : A) (n k : ℕ) (d₀ ys : List A) → a + k ≤ length d₀ → n ≡ k

@@ -1,6 +1,6 @@
 -- `bytes::put_payload` meets its contract: bytes and part of the line of known bits are those of the payload.
 use Rattle.std.proofs.Common.{◌≡◌, ◌∙◌, ◌+◌, ◌-◌, ◌%◌, length, replicate, get_or, arith}
-use Rattle.laws.proofs.Filling.{fill_copied, fill_lent}
+use Rattle.laws.proofs.Filling.{fill_copied, fill_lent_all}
 use Rattle.assembler.specs.Asked.{KnownLine}
 use Rattle.assembler.proofs.KnownBits.{line_asked, line_part, line_symbol, bytes_filled, part_left_lem}
 use Rattle.assembler.proofs.bytes.put_payload.Goals.{Joined-before-after, then-before-after, else-before-after}
@@ -41,6 +41,6 @@ returns c =
     let known = known_line (goal.at.returns c).Joined-before-after in
     record {
       filled = bytes_filled a.bytes a.start a.count a.part _ _ _ _ _ before_is after_is known _ _
-          (fill_lent 0 _ _ _ _ a.payload.now (omega arith) (omega arith) c.put_bytes.ensures);
+          (fill_lent_all 0 _ _ _ _ a.payload.now (omega arith) (omega arith) c.put_bytes.ensures);
       value = c.pack.ensures ∙ part_left_lem a.bytes a.start a.count a.part _ _ _ _ _ before_is after_is known;
     }

@@ -4,10 +4,10 @@ use Rattle.chain.specs.Interleaver.{rotation}
 use Rattle.std.proofs.lemmas.Bool.{ne_eqb}
 use Rattle.coding.proofs.labels.rotated_carriers.Goals as goal
 
-pub returns-then-wide_channel : goal.returns-then-wide_channel
+pub returns-then-width-eq40 : goal.returns-then-width-eq40
 unfolding rotation
-returns-then-wide_channel c = simp c.if-wide_channel.true (omega arith)
+returns-then-width-eq40 c = simp c.if-width-eq40.true (omega arith)
 
-pub returns-else-wide_channel : goal.returns-else-wide_channel
+pub returns-else-width-eq40 : goal.returns-else-width-eq40
 unfolding rotation
-returns-else-wide_channel c = simp (ne_eqb _ _ c.if-wide_channel.false) (omega arith)
+returns-else-width-eq40 c = simp (ne_eqb _ _ c.if-width-eq40.false) (omega arith)

@@ -1,43 +1,41 @@
 -- `stream_halves`: the two runs round a stream's rotation are the stream.
-use native.Mathlib.Omega.{arith}
+use Rattle.std.proofs.Common.{◌-◌, length, ℕ, length-take, length-drop, length-append, arith}
+use Rattle.laws.proofs.Filling.{fill_lent_all}
 use Rattle.coding.proofs.HalfLaws.{Turned, rotated_few, turned, shift_few, turned_halves, turned_run}
+use Rattle.coding.proofs.labels.stream_halves.Goals.{After-rotated_carriers, After-halves_of-first}
 use Rattle.coding.proofs.labels.stream_halves.Goals as goal
+
+-- what the code counts
+turn : (c : After-halves_of-first) → Turned c.args.plan c.args.i c.axis_bits-axis.result (length c.args.halves.now) c.halves_of-first.result
+turn c =
+    turned c.args.plan c.requires.fits c.args.i c.requires.stream _ _ c.rotated_carriers.result _ c.axis_bits-axis.ensures c.requires.own
+    (omega (arith, c.rotated_carriers.ensures)) c.halves_of-first.ensures
+
+pub overflow_mul-bits : goal.overflow_mul-bits
+overflow_mul-bits c = omega (arith, shift_few c.args.plan c.requires.fits c.args.i c.requires.stream _ c.axis_bits-axis.ensures)
 
 pub halves_of-first-requires : goal.halves_of-first-requires
 halves_of-first-requires c = rotated_few c.args.plan c.requires.fits c.args.i c.requires.stream _ (omega (arith, c.rotated_carriers.ensures))
 
 pub overflow_sub-rest : goal.overflow_sub-rest
-overflow_sub-rest c =
-    let turn : Turned c.args.plan c.args.i c.axis_bits-s.result c.halves_of-count.result c.halves_of-first.result = turned c.args.plan c.requires.fits c.args.i c.requires.stream _ _ c.rotated_carriers.result _ c.axis_bits-s.ensures c.halves_of-count.ensures (omega (arith, c.rotated_carriers.ensures)) c.halves_of-first.ensures in
-    omega (arith, turn)
+overflow_sub-rest c = omega (arith, turn (goal.at.overflow_sub-rest c).After-halves_of-first)
 
-pub overflow_mul-i : goal.overflow_mul-i
-overflow_mul-i c =
-    let turn : Turned c.args.plan c.args.i c.axis_bits-s.result c.halves_of-count.result c.halves_of-first.result = turned c.args.plan c.requires.fits c.args.i c.requires.stream _ _ c.rotated_carriers.result _ c.axis_bits-s.ensures c.halves_of-count.ensures (omega (arith, c.rotated_carriers.ensures)) c.halves_of-first.ensures in
-    omega (arith, shift_few c.args.plan c.requires.fits c.args.i c.requires.stream (turn))
+pub put-requires : goal.put-requires
+put-requires c =
+    let t = turn (goal.at.put-requires c).After-halves_of-first in
+    turned_run c.args.plan c.requires.fits c.args.i c.requires.stream t c.args.table.now c.requires.tabled _ c.requires.sized c.requires.wide_enough
+    (omega (arith, length-take {A = ℕ}, t))
 
-pub run-requires : goal.run-requires
-run-requires c =
-    let turn : Turned c.args.plan c.args.i c.axis_bits-s.result c.halves_of-count.result c.halves_of-first.result = turned c.args.plan c.requires.fits c.args.i c.requires.stream _ _ c.rotated_carriers.result _ c.axis_bits-s.ensures c.halves_of-count.ensures (omega (arith, c.rotated_carriers.ensures)) c.halves_of-first.ensures in
-    let t = turn in
-    turned_run c.args.plan c.requires.fits c.args.i c.requires.stream t _ c.requires.tabled _ _ _ c.requires.room c.requires.sized
-    c.requires.wide_enough (omega (arith, t)) (omega (arith, t))
-
-pub overflow_mul-i-2 : goal.overflow_mul-i-2
-overflow_mul-i-2 c =
-    let turn : Turned c.args.plan c.args.i c.axis_bits-s.result c.halves_of-count.result c.halves_of-first.result = turned c.args.plan c.requires.fits c.args.i c.requires.stream _ _ c.rotated_carriers.result _ c.axis_bits-s.ensures c.halves_of-count.ensures (omega (arith, c.rotated_carriers.ensures)) c.halves_of-first.ensures in
-    omega (arith, shift_few c.args.plan c.requires.fits c.args.i c.requires.stream (turn))
-
-pub run-requires-2 : goal.run-requires-2
-run-requires-2 c =
-    let turn : Turned c.args.plan c.args.i c.axis_bits-s.result c.halves_of-count.result c.halves_of-first.result = turned c.args.plan c.requires.fits c.args.i c.requires.stream _ _ c.rotated_carriers.result _ c.axis_bits-s.ensures c.halves_of-count.ensures (omega (arith, c.rotated_carriers.ensures)) c.halves_of-first.ensures in
-    let t = turn in
-    turned_run c.args.plan c.requires.fits c.args.i c.requires.stream t _ c.requires.tabled _ _ _
-    (omega (arith, c.requires.room, c.run.ensures.same)) c.requires.sized
-    c.requires.wide_enough (omega (arith, t)) (omega (arith, t))
+pub put-requires-2 : goal.put-requires-2
+put-requires-2 c =
+    let t = turn (goal.at.put-requires-2 c).After-halves_of-first in
+    turned_run c.args.plan c.requires.fits c.args.i c.requires.stream t c.args.table.now c.requires.tabled _ c.requires.sized c.requires.wide_enough
+    (simp (length-take, length-drop, length-append) (omega (arith, c.put.ensures.same, length-take {A = ℕ})))
 
 pub returns : goal.returns
 returns c =
-    let turn : Turned c.args.plan c.args.i c.axis_bits-s.result c.halves_of-count.result c.halves_of-first.result = turned c.args.plan c.requires.fits c.args.i c.requires.stream _ _ c.rotated_carriers.result _ c.axis_bits-s.ensures c.halves_of-count.ensures (omega (arith, c.rotated_carriers.ensures)) c.halves_of-first.ensures in
-    turned_halves c.args.plan c.requires.fits c.args.i c.requires.stream (turn) c.args.table.now c.requires.tabled
-    c.args.coded.now _ _ _ c.run.ensures c.run-2.ensures (omega (arith, turn))
+    let t = turn (goal.at.returns c).After-halves_of-first in
+    let rest = length c.args.halves.now - c.halves_of-first.result in
+    let one = fill_lent_all 0 0 _ rest rest c.args.halves.now (omega arith) (omega arith) c.put.ensures in
+    turned_halves c.args.plan c.requires.fits c.args.i c.requires.stream t c.args.table.now c.requires.tabled c.args.coded.now (omega (arith, t)) one
+    (fill_lent_all 0 rest _ _ _ _ (omega (arith, one.same)) (omega (arith, t, one.same)) c.put-2.ensures)

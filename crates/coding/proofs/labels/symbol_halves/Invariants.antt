@@ -1,7 +1,6 @@
 -- `symbol_halves` writes the half labels stream by stream.
-use Prim.Native.Nat.{◌-◌, ◌≤◌}
 use Rattle.coding.specs.Halves.{half_in, HalvesFilled}
 use Rattle.coding.proofs.labels.symbol_halves.Given as goal
 
 abbrev pub invariant-loop-i : goal.invariant-loop-i
-invariant-loop-i l = (l.i ≤ l.streams) × HalvesFilled l.plan (half_in l.plan l.coded) l.i l.initial.halves l.halves
+invariant-loop-i l = HalvesFilled l.plan (half_in l.plan l.coded) l.i l.initial.halves l.halves

@@ -1,9 +1,9 @@
 -- `bits::descramble` meets its contract: inputs with the scrambler's outputs on them are the plain bits.
 use Rattle.std.proofs.Common.{arith}
-use Rattle.laws.proofs.Filling.{fill_lent}
+use Rattle.laws.proofs.Filling.{fill_lent_all}
 use Rattle.deframer.proofs.Plain.{plain_filled}
 use Rattle.deframer.proofs.bits.descramble.Goals as goal
 
 pub returns : goal.returns
 returns c = plain_filled _ _ _ _ _ _ _ c.requires.bits c.scrambler_outputs.ensures
-    (fill_lent 0 0 _ _ c.args.count c.args.plain.now (omega arith) (omega arith) c.add_bits.ensures)
+    (fill_lent_all 0 0 _ _ c.args.count c.args.plain.now (omega arith) (omega arith) c.add_bits.ensures)

@@ -1,6 +1,6 @@
 -- `coder_inputs`: zeros before the frame's first bit, and the scrambled inputs behind them.
 use Rattle.std.proofs.Common.{◌-◌, arith}
-use Rattle.laws.proofs.Filling.{fill_lent, fill_same}
+use Rattle.laws.proofs.Filling.{fill_lent_all, fill_same}
 use Rattle.chain.specs.DataBits.{payload_bit, coder_input}
 use Rattle.chain.proofs.Counts.{encoders_most}
 use Rattle.inputs.proofs.Mixing.{line_filled}
@@ -12,4 +12,4 @@ returns c = let a = c.args in
     let zeros = fill_same 0 0 0 head head a.line.now _ (omega arith) (omega arith) (c.fill.ensures.after (λ y e. e)) in
     line_filled (coder_input (payload_bit a.payload.now) a.bytes a.encoders a.seed) a.encoders a.first a.count _ _ _ _
     (encoders_most c.args.encoders c.requires.one_or_two) c.requires.some c.below_mark-head.ensures zeros
-    (fill_lent 0 head _ _ (a.count - head) _ (omega (arith, zeros)) (omega arith) c.scrambled_inputs.ensures)
+    (fill_lent_all 0 head _ _ (a.count - head) _ (omega (arith, zeros)) (omega arith) c.scrambled_inputs.ensures)
