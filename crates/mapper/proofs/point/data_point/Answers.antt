@@ -15,7 +15,7 @@ bounds-table-from c = rw c.from.ensures (half_known c.requires _ (only c.require
 
 pub returns-then-bits-eq1 : goal.returns-then-bits-eq1
 unfolding of_bits of_int
-returns-then-bits-eq1 c = one_level c.requires _ c.if-bits-eq1.true (rw c.from.ensures)
+returns-then-bits-eq1 c = one_level c.requires _ c.if-bits-eq1.true (cc)
 
 pub overflow_mul-m : goal.overflow_mul-m
 overflow_mul-m c = omega (arith, half_in_lem c.requires _ (first_half_lem c.requires c.if-bits-eq1.false), c.well_formed.0)
@@ -40,4 +40,4 @@ bounds-table-from-3 c =
     rw (c.from-3.ensures, add_assoc c.args.from (2 * c.args.c) 1) (half_known c.requires _ (second_half_lem c.requires c.if-bits-eq1.false))
 
 pub returns : goal.returns
-returns c = two_levels c.requires _ _ c.if-bits-eq1.false (rw c.from-2.ensures) (rw c.from-3.ensures)
+returns c = two_levels c.requires _ _ c.if-bits-eq1.false (cc) (cc)
