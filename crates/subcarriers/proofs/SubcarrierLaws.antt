@@ -200,19 +200,19 @@ module _ (width : ℕ) (h : T (among widths width)) (z : ℤ) (inside : Inside w
   pub lost_silent : place_found (used_subcarriers width) z ≡ None → Silent ≡ use_of width z
   lost_silent e = sym (unused_silent width h z inside (rw (sizes_are width h).0 at (found_none _ _ e)))
 
--- the used indexes of a width: low up to gap, and above up to top
+-- the used indexes of a width: low up to gap, and above up to top, which have so many skipped below them
 abbrev pub Bounds : Type 0
-Bounds = ℕ × ℕ × ℕ × ℕ
+Bounds = ℕ × ℕ × ℕ × ℕ × ℕ
 
 abbrev pub bounds_of : (width : ℕ) → Bounds
-bounds_of width = cond (eqb width 40) (6, 63, 66, 123) (36, 64, 65, 93)
+bounds_of width = cond (eqb width 40) (6, 63, 66, 123, 9) (36, 64, 65, 93, 37)
 
 -- x is the place of index k among the used ones
 pub record Ranged (b : Bounds) (k : ℕ) (x : Option ℕ) : Type 0 where
   pub below : k < b.0 → None ≡ x
   pub lower : b.0 ≤ k → k < b.1 → Some (k - b.0) ≡ x
   pub between : b.1 ≤ k → k < b.2 → None ≡ x
-  pub upper : b.2 ≤ k → k < b.3 → Some (k - b.0 - (b.2 - b.1)) ≡ x
+  pub upper : b.2 ≤ k → k < b.3 → Some (k - b.4) ≡ x
   pub beyond : b.3 ≤ k → None ≡ x
 
 -- a number or none, as a number
@@ -234,7 +234,7 @@ ranged_claim b k x =
     given (one (ltb k b.0)) 1 (found_is None x)
     and given (one (ltb k b.0)) 0 (given (one (ltb k b.1)) 1 (found_is (Some (k - b.0)) x))
     and given (one (ltb k b.1)) 0 (given (one (ltb k b.2)) 1 (found_is None x))
-    and given (one (ltb k b.2)) 0 (given (one (ltb k b.3)) 1 (found_is (Some (k - b.0 - (b.2 - b.1))) x))
+    and given (one (ltb k b.2)) 0 (given (one (ltb k b.3)) 1 (found_is (Some (k - b.4)) x))
     and given (one (ltb k b.3)) 0 (found_is None x)
 
 ranged : (b : Bounds) (k : ℕ) (x : Option ℕ) → Holds (ranged_claim b k x) → Ranged b k x
@@ -263,7 +263,7 @@ pub form : (width k : ℕ) (b : Bounds) → b ≡ bounds_of width → k < 128 �
 unfolding used_subcarriers
 form width k b e l = rw e (ranged _ k _ (go (eqb width 40)))
   where
-    go : (wide : Bool) → Holds (ranged_claim (cond wide (6, 63, 66, 123) (36, 64, 65, 93)) k
+    go : (wide : Bool) → Holds (ranged_claim (cond wide (6, 63, 66, 123, 9) (36, 64, 65, 93, 37)) k
         (place_found (cond wide (rising (minus 58) 57 ++ rising (pos 2) 57) (rising (minus 28) 28 ++ rising (pos 1) 28)) (subcarrier_from k)))
     go true = wide_form k l
     go false = narrow_form k l

@@ -83,21 +83,22 @@ pub fn index(subcarrier: i32) -> usize
     (subcarrier + 64) as usize
 }
 
-// The place of a subcarrier among the used ones, by its index: the used indexes are those from low up to gap, and from above up to top.
+// The place of a subcarrier among the used ones, by its index. Used are those from low up to gap, and from above up to top,
+// which have so many skipped below them.
 fn place_of(width: usize, k: usize) -> Option<usize>
     requires { k < 128 }
     ensures { result ≡ place_found (used_subcarriers width) (subcarrier_from k) }
 {
-    let (low, gap, above, top) = if width == 40 {
-        (6, 63, 66, 123)
+    let (low, gap, above, top, skipped) = if width == 40 {
+        (6, 63, 66, 123, 9)
     } else {
-        (36, 64, 65, 93)
+        (36, 64, 65, 93, 37)
     };
     if low <= k && k < gap {
         return Some(k - low);
     }
     if above <= k && k < top {
-        return Some(k - low - (above - gap));
+        return Some(k - skipped);
     }
     None
 }
