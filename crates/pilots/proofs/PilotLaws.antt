@@ -59,13 +59,13 @@ few_values false = lit< tt
 pub value_small : (width k : ℕ) → k < pilots_of width → k < 6
 value_small width k h = omega (arith, few_values (eqb width 40))
 
--- bit k of row i of so many streams, under a name that stays shut where the table is read off a goal
-unfoldable pub bit_in : (table : List (List ℕ)) (streams i k : ℕ) → ℕ
-bit_in table streams i k = get_or (get_or table (streams - 1) []) i 0 / 2 ^ k % 2
+-- bit k of row i, under a name that stays shut where the rows are read off a goal
+unfoldable pub bit_in : (rows : List ℕ) (i k : ℕ) → ℕ
+bit_in rows i k = get_or rows i 0 / 2 ^ k % 2
 
-pub bit_in_lem : (table : List (List ℕ)) (streams i k : ℕ) → get_or (get_or table (streams - 1) []) i 0 / 2 ^ k % 2 ≡ bit_in table streams i k
+pub bit_in_lem : (rows : List ℕ) (i k : ℕ) → get_or rows i 0 / 2 ^ k % 2 ≡ bit_in rows i k
 unfolding bit_in
-bit_in_lem table streams i k = refl
+bit_in_lem rows i k = refl
 
 -- a table of bits says the minus signs of a width's table
 abbrev pub rows_claim : (table : List (List ℕ)) (width : ℕ) → Claim
@@ -74,14 +74,14 @@ rows_claim table width =
     counted (sign_of (get_or (get_or table (s - 1) []) i 0 / 2 ^ k % 2)) is counted (pattern_of width s i k)
 
 -- where it does, a bit of a stream's row says that stream's value
-pub row_says : (table rows : List (List ℕ)) (w width streams i k : ℕ)
-    → T (test (rows_claim rows w)) → width ≡ w → PilotAsked width streams i k → table ≡ rows
-    → (sign_of (bit_in table streams i k) ≡ pattern_of width streams i k) × (bit_in table streams i k < 2)
+pub row_says : (table : List (List ℕ)) (w width streams i k : ℕ) (rows : List ℕ)
+    → T (test (rows_claim table w)) → width ≡ w → PilotAsked width streams i k → rows ≡ get_or table (streams - 1) []
+    → (sign_of (bit_in rows i k) ≡ pattern_of width streams i k) × (bit_in rows i k < 2)
 unfolding bit_in
-row_says table rows w width streams i k right e asked there =
-    let says : sign_of (get_or (get_or table (streams - 1) []) i 0 / 2 ^ k % 2) ≡ pattern_of width streams i k =
-    ap (λ (t : List (List ℕ)). sign_of (get_or (get_or t (streams - 1) []) i 0 / 2 ^ k % 2)) there
-    ∙ counted_same _ _ (sound (rows_claim rows w) right streams asked.known_streams i asked.stream k (rw e at asked.place))
+row_says table w width streams i k rows right e asked there =
+    let says : sign_of (get_or rows i 0 / 2 ^ k % 2) ≡ pattern_of width streams i k =
+    ap (λ (r : List ℕ). sign_of (get_or r i 0 / 2 ^ k % 2)) there
+    ∙ counted_same _ _ (sound (rows_claim table w) right streams asked.known_streams i asked.stream k (rw e at asked.place))
     ∙ ap (λ (x : ℕ). pattern_of x streams i k) (sym e) in
     (says, omega arith)
 
