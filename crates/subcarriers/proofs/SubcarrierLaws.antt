@@ -11,7 +11,9 @@ use Rattle.laws.proofs.Reflect.{or_false}
 use Rattle.chain.specs.Plan.{widths, carriers_of}
 use Rattle.subcarriers.specs.declared.layout.Use.{Use}
 use Rattle.subcarriers.specs.declared.layout.Use.TheVariants.{Silent, Pilot, Data}
-use Rattle.subcarriers.specs.Subcarriers.{used_subcarriers, pilot_subcarriers, data_subcarriers, rising, place_in, place_found, use_of, places_of, subcarrier_at, pilots_of, outside, Inside, subcarrier_from, UseRight, PlaceUsed, CarrierPlace}
+use Rattle.subcarriers.specs.Subcarriers.{used_subcarriers, pilot_subcarriers, data_subcarriers, rising, place_in, place_found, use_of}
+use Rattle.subcarriers.specs.Subcarriers.{places_of, subcarrier_at, pilots_of, outside, Inside, subcarrier_from, UseRight, PlaceUsed}
+use Rattle.subcarriers.specs.Subcarriers.{CarrierPlace}
 
 -- a test as a number
 abbrev pub one : Bool → ℕ
@@ -259,12 +261,14 @@ unfolding used_subcarriers
 narrow_form = sound (form_claim 20) tt
 
 -- the place of a subcarrier by its index
-pub form : (width k : ℕ) (b : Bounds) → b ≡ bounds_of width → k < 128 → Ranged b k (place_found (used_subcarriers width) (subcarrier_from k))
+pub form : (width k : ℕ) (b : Bounds) → b ≡ bounds_of width → k < 128
+    → Ranged b k (place_found (used_subcarriers width) (subcarrier_from k))
 unfolding used_subcarriers
 form width k b e l = rw e (ranged _ k _ (go (eqb width 40)))
   where
     go : (wide : Bool) → Holds (ranged_claim (cond wide (6, 63, 66, 123, 9) (36, 64, 65, 93, 37)) k
-        (place_found (cond wide (rising (minus 58) 57 ++ rising (pos 2) 57) (rising (minus 28) 28 ++ rising (pos 1) 28)) (subcarrier_from k)))
+        (place_found (cond wide (rising (minus 58) 57 ++ rising (pos 2) 57) (rising (minus 28) 28 ++ rising (pos 1) 28))
+        (subcarrier_from k)))
     go true = wide_form k l
     go false = narrow_form k l
 

@@ -1,5 +1,6 @@
 -- Which subcarriers carry pilots, data or nothing (document 01 step 7; EWC 4.6, 4.7), by their own numbers.
-use Rattle.std.specs.Prelude.{◌≡◌, Bool, false, cond, ◌||◌, Option, Some, None, List, [], ◌∷◌, ◌++◌, ℕ, zero, suc, ◌-◌, ◌<◌, eqb, ltb, length, get_or, ℤ, pos, ◌+ℤ◌}
+use Rattle.std.specs.Prelude.{◌≡◌, Bool, false, cond, ◌||◌, Option, Some, None, List, [], ◌∷◌, ◌++◌, ℕ, zero, suc, ◌-◌, ◌<◌, eqb, ltb}
+use Rattle.std.specs.Prelude.{length, get_or, ℤ, pos, ◌+ℤ◌}
 use Rattle.std.specs.Int.Signed.{lt_z}
 use Rattle.laws.specs.Integers.{minus, alike}
 use Rattle.chain.specs.Plan.{carriers_of}

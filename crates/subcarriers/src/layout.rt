@@ -2,7 +2,8 @@
 ghost use Rattle.std.specs.Prelude.{◌≡◌, ◌*◌, ◌<◌, ◌≤◌, T, pos, ◌-ℤ◌};
 ghost use Rattle.laws.specs.Test.{among};
 ghost use Rattle.chain.specs.Plan.{widths};
-ghost use Rattle.subcarriers.specs.Subcarriers.{used_subcarriers, place_found, use_of, places_of, subcarrier_at, subcarrier_from, outside, Inside};
+ghost use Rattle.subcarriers.specs.Subcarriers.{used_subcarriers, place_found, use_of, places_of, subcarrier_at, subcarrier_from, outside};
+ghost use Rattle.subcarriers.specs.Subcarriers.{Inside};
 ghost use Rattle.subcarriers.specs.Runs.{half_runs, run_of};
 
 // Nothing, the pilot at a place, or the data carrier of a number, both counted from 0 with the subcarriers rising.

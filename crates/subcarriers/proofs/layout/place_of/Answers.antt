@@ -8,7 +8,8 @@ use Rattle.subcarriers.proofs.layout.place_of.Goals.{else-above-k-via-then-above
 use Rattle.subcarriers.proofs.layout.place_of.Goals as goal
 
 -- the bounds are the width's
-parts : (c : Joined-width-eq40) → Ranged c.if-width-eq40.low c.args.k (place_found (used_subcarriers c.args.width) (subcarrier_from c.args.k))
+parts : (c : Joined-width-eq40)
+    → Ranged c.if-width-eq40.low c.args.k (place_found (used_subcarriers c.args.width) (subcarrier_from c.args.k))
 parts c = form c.args.width c.args.k c.if-width-eq40.low bounds c.requires
   where
     bounds : c.if-width-eq40.low ≡ bounds_of c.args.width

@@ -34,7 +34,8 @@ returns-then-f-end c =
 
 pub returns-in-loop-r : goal.returns-in-loop-r
 returns-in-loop-r c =
-    pilot_use_at c.args.width c.args.f c.run_of-run.result (right (goal.at.returns-in-loop-r c).After-run_of-run) c.in-Some.pilot c.in-Some.is c.if-f-end-2.true
+    let r = right (goal.at.returns-in-loop-r c).After-run_of-run in
+    pilot_use_at c.args.width c.args.f c.run_of-run.result r c.in-Some.pilot c.in-Some.is c.if-f-end-2.true
 
 pub unreachable-requires : goal.unreachable-requires
 unreachable-requires c =
