@@ -1,12 +1,7 @@
 -- A carrier's half labels: how many, and that its levels come from them alone. Assumes of the plan that it fits.
-use mathlib.Core.Path.{◌≡◌, refl, ap, ap₂}
-use mathlib.Core.Bool.{Bool, true, false, cond}
-use Prim.Native.Nat.{ℕ, ◌+◌, ◌*◌, ◌/◌, ◌<◌, ◌≤◌}
-use native.Mathlib.Nat.{mul-le-mul_left}
-use native.Mathlib.Omega.{arith}
-use borrow.Author.Tests.{eqb-true, eqb-false}
-use lib.Dec.{T, eqb}
-use lib.IntN.{pos}
+use Rattle.std.proofs.Common.{◌≡◌, refl, ap, ap₂, Bool, true, false, cond, ℕ, ◌+◌, ◌*◌, ◌/◌, ◌<◌, ◌≤◌, mul-le-mul_left, arith, eqb-true, T}
+use Rattle.std.proofs.Common.{eqb, pos}
+use borrow.Author.Tests.{eqb-false}
 use Rattle.laws.specs.Test.{among}
 use Rattle.laws.specs.Claim.{Claim, ◌is◌, ◌and◌, each, given, unless, Holds, sound}
 use Rattle.chain.specs.declared.plan.Plan.{Plan}

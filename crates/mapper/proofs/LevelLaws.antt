@@ -1,11 +1,7 @@
 -- The levels: how small they are, that they tell their labels apart, and the floats that they are. Assumes nothing.
-use mathlib.Core.Path.{◌≡◌, ◌∙◌, sym, ap}
-use mathlib.Core.Bool.{Bool, true, false, cond}
-use mathlib.Core.List.{List, [], ◌∷◌}
-use Prim.Native.Nat.{ℕ, zero, suc, ◌*◌, ◌+◌, ◌^◌, ◌<◌}
-use native.Mathlib.Omega.{arith}
-use lib.Dec.{T, eqb, ltb, ltb→lt}
-use lib.IntN.{ℤ, pos, negsuc, neg_ℤ, neg_ℤ-neg_ℤ, nat_abs}
+use Rattle.std.proofs.Common.{◌≡◌, ◌∙◌, sym, ap, Bool, true, false, cond, List, [], ◌∷◌, ℕ, zero, suc, ◌*◌, ◌+◌, ◌^◌, ◌<◌, arith, T, eqb}
+use Rattle.std.proofs.Common.{ltb, ltb→lt, ℤ, pos, negsuc, neg_ℤ, nat_abs}
+use lib.IntN.{neg_ℤ-neg_ℤ}
 use lib.Ieee.{Float, binary32, of_int, of_bits, to_bits, to_signed, eq, neg, fits}
 use lib.Ieee.Bits.{of_bits-to_bits}
 use lib.Ieee.Fits.{of_int-fits, neg-fits, cond-fits}

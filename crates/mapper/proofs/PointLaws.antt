@@ -1,13 +1,6 @@
 -- What the mapper's code does, over plain lists and numbers: its tables of levels, a carrier's point, the turn. Assumes nothing.
-use mathlib.Core.Path.{◌≡◌, ◌∙◌, refl, sym, ap, subst}
-use mathlib.Core.List.{List, [], ◌∷◌}
-use Prim.Native.Nat.{ℕ, zero, suc, ◌+◌, ◌*◌, ◌^◌, ◌<◌}
-use native.Mathlib.Nat.{le_of_suc-le-suc, not-suc-le-zero}
-use native.Mathlib.Omega.{arith}
-use borrow.Author.Tests.{eq-eqb, ne_eqb}
-use lib.Dec.{T}
-use lib.IntN.{pos}
-use lib.ListN.{length, get_or}
+use Rattle.std.proofs.Common.{◌≡◌, ◌∙◌, refl, sym, ap, subst, List, [], ◌∷◌, ℕ, zero, suc, ◌+◌, ◌-◌, ◌*◌, ◌^◌, ◌<◌, le_of_suc-le-suc}
+use Rattle.std.proofs.Common.{not-suc-le-zero, arith, eq-eqb, ne_eqb, T, pos, length, get_or}
 use lib.Ieee.{Float, nan}
 use Rattle.laws.specs.Test.{among}
 use Rattle.laws.specs.Claim.{Claim, ◌is◌, ◌under◌, ◌and◌, each, given, unless, Holds, sound}
@@ -42,6 +35,17 @@ tabled s t table e h f = subst (λ (n : ℕ). LevelTable n table) (sym e) (recor
   level = λ label l.
       ap (λ (x : List Float). get_or x label nan) f ∙ listed_at (λ k. whole (level_of t k)) 8 label (omega (arith, l, (axes t h).0));
 })
+
+-- three rows, of one, two and three bits, are the tables of them all
+pub row_tabled : (rows : List (List Float)) (none : List Float) (s : ℕ) → T (among axis_counts s)
+    → get_or rows 0 none ≡ listed (λ k. whole (level_of 1 k)) 8 → get_or rows 1 none ≡ listed (λ k. whole (level_of 2 k)) 8
+    → get_or rows 2 none ≡ listed (λ k. whole (level_of 3 k)) 8 → LevelTable s (get_or rows (s - 1) none)
+row_tabled rows none zero h e₁ e₂ e₃ = absurd h
+row_tabled rows none (suc zero) h e₁ e₂ e₃ = tabled 1 1 _ refl h e₁
+row_tabled rows none (suc (suc zero)) h e₁ e₂ e₃ = tabled 2 2 _ refl h e₂
+row_tabled rows none (suc (suc (suc zero))) h e₁ e₂ e₃ = tabled 3 3 _ refl h e₃
+row_tabled rows none (suc (suc (suc (suc s)))) h e₁ e₂ e₃ =
+    absurd (omega (arith, (axes (suc (suc (suc (suc s)))) h).1 (λ e. omega (arith, e)) (λ e. omega (arith, e))))
 
 abbrev halves_claim : Claim
 halves_claim = each bit_counts λ b.

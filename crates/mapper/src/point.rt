@@ -14,25 +14,19 @@ pub struct Point {
     pub second: f32,
 }
 
-// The levels of s bits of one axis, by their label with the first bit highest: one table for a symbol, so that no branch goes by its data.
+// The levels of one, two and three bits of an axis, by their label with the first bit highest.
+const LEVELS: [[f32; 8]; 3] = [
+    [-1.0, 1.0, 0.0, 0.0, 0.0, 0.0, 0.0, 0.0],
+    [-3.0, -1.0, 3.0, 1.0, 0.0, 0.0, 0.0, 0.0],
+    [-7.0, -5.0, -1.0, -3.0, 7.0, 5.0, 1.0, 3.0],
+];
+
+// The levels of s bits: one table for a symbol, so that no branch goes by its data.
 pub fn level_table(s: usize) -> [f32; 8]
     requires { T (among axis_counts s) }
     ensures { LevelTable s result }
 {
-    if s == 1 {
-        return [-1.0, 1.0, 0.0, 0.0, 0.0, 0.0, 0.0, 0.0];
-    }
-    if s == 2 {
-        return [-3.0, -1.0, 3.0, 1.0, 0.0, 0.0, 0.0, 0.0];
-    }
-    [-7.0, -5.0, -1.0, -3.0, 7.0, 5.0, 1.0, 3.0]
-}
-
-fn level(table: &[f32], half: u8) -> f32
-    requires { half < length table.now }
-    ensures { result ≡ get_or table.now half nan }
-{
-    table[half as usize]
+    LEVELS[s - 1]
 }
 
 // The point of data carrier c of the stream whose half labels stand from `from` on.
@@ -42,14 +36,14 @@ pub fn data_point(halves: &[u8], table: &[f32], bits: usize, from: usize, c: usi
 {
     if bits == 1 {
         return Point {
-            first: level(table, halves[from + c]),
+            first: table[usize::from(halves[from + c])],
             second: 0.0,
         };
     }
     let m = from + 2 * c;
     Point {
-        first: level(table, halves[m]),
-        second: level(table, halves[m + 1]),
+        first: table[usize::from(halves[m])],
+        second: table[usize::from(halves[m + 1])],
     }
 }
 

@@ -1,13 +1,7 @@
 -- What the modulator's functions fill, part by part: a point, a run, a run with its pilot, a stream, a symbol. Assumes of the plan that it fits.
-use mathlib.Core.Path.{◌≡◌, ◌∙◌, refl, sym, ap, ap₂, subst}
-use mathlib.Core.Bool.{Bool, true, false, cond}
-use mathlib.Core.List.{List}
-use Prim.Native.Nat.{ℕ, zero, suc, ◌+◌, ◌-◌, ◌*◌, ◌/◌, ◌%◌, ◌<◌, ◌≤◌}
-use native.Mathlib.Nat.{zero-add, suc-mul, mul-le-mul, mul-le-mul_left, mul-le-mul_right}
-use native.Mathlib.Numerals.{add-one}
-use native.Mathlib.Omega.{arith}
-use lib.ListN.{length}
-use lib.IntN.{ℤ, pos, nat_abs, ◌*ℤ◌}
+use Rattle.std.proofs.Common.{◌≡◌, ◌∙◌, refl, sym, ap, ap₂, subst, Bool, true, false, cond, List, Option, Some, None, is_some, ℕ, zero, suc}
+use Rattle.std.proofs.Common.{◌+◌, ◌-◌, ◌*◌, ◌/◌, ◌%◌, ◌<◌, ◌≤◌, zero-add, suc-mul, mul-le-mul, mul-le-mul_left, mul-le-mul_right}
+use Rattle.std.proofs.Common.{arith, length, ℤ, pos, nat_abs, ◌*ℤ◌}
 use lib.Ieee.{Float, nan}
 use Rattle.laws.specs.Filled.{Filled}
 use Rattle.laws.proofs.Filling.{fill_none, fill_as, fill_end, fill_from, fill_join}
@@ -25,15 +19,17 @@ use Rattle.mapper.proofs.PointLaws.{turned_whole}
 use Rattle.subcarriers.specs.declared.layout.Run.{Run}
 use Rattle.subcarriers.specs.declared.layout.Use.{Use}
 use Rattle.subcarriers.specs.declared.layout.Use.TheVariants.{Pilot, Data}
-use Rattle.subcarriers.specs.Subcarriers.{use_of, places_of, subcarrier_at, pilots_of, upper}
+use Rattle.subcarriers.specs.Subcarriers.{use_of, subcarrier_at, pilots_of, upper}
 use Rattle.subcarriers.specs.Runs.{half_runs, run_of, run_end, RunRight, RunsRight}
 use Rattle.subcarriers.proofs.SubcarrierLaws.{places_few}
-use Rattle.subcarriers.proofs.RunLaws.{runs_right, runs_some, pilot_counts}
+use Rattle.subcarriers.proofs.RunLaws.{runs_right, runs_some, pilot_counts, run_start, start_next, start_place, start_end}
 use Rattle.pilots.specs.Pilots.{sign_of, pattern_of, polarity_bit, pilot_sign, PilotAsked}
 use Rattle.pilots.proofs.PilotLaws.{pilot_is, pilot_one}
 use Rattle.modulator.proofs.SymbolLaws.{stream_float}
+use Rattle.modulator.specs.declared.symbol.Stream.{Stream}
 use Rattle.modulator.specs.Symbol.{used_levels, turned_if, axis_level, stream_level, stream_floats, symbol_float}
-use Rattle.modulator.specs.Asked.{halves_from, halves_in, run_level, RunAsked, pilot_point, StreamAsked, SegmentFilled, StreamFilled, SymbolAsked}
+use Rattle.modulator.specs.Asked.{halves_from, own_half, halves_in, run_level, RunAsked, CarriersFilled, pilot_point, StreamAsked}
+use Rattle.modulator.specs.Asked.{SegmentFilled, StreamFilled, SymbolAsked}
 
 -- a point that is turned, and one that is not
 pub turned_point_lem : (t : Bool) (l : Levels) (p r : Point) → t ≡ true → Small l → p ≡ point_of l → r ≡ turned_point p
@@ -87,10 +83,10 @@ halves_fewer {bits = bits} {more = more} stands fewer h =
     record { inside = omega (arith, stands.inside); label = λ m l. stands.label m (omega arith) }
 
 -- what a turn of a run asks
-pub run_asked : {out : List Float} {halves : List ℕ} {table : List Float} {bits from to carrier count : ℕ}
-    → RunAsked out halves table bits from to carrier count → (k : ℕ) → k < count → PointAsked halves table bits from (carrier + k)
-run_asked {carrier = carrier} asked k h =
-    record { known = asked.known; tabled = asked.tabled; stands = halves_fewer asked.stands (carrier + k + 1) (omega arith) }
+pub run_asked : {out : List Float} {s : Stream} {to : ℕ} {run : Run}
+    → RunAsked out s to run → (k : ℕ) → k < run.count → PointAsked s.halves.now s.table.now s.plan.bits s.from (run.carrier + k)
+run_asked {run = run} asked k h =
+    record { known = asked.known; tabled = asked.tabled; stands = halves_fewer asked.stands (run.carrier + k + 1) (omega arith) }
 
 -- a turn of a run: carrier k's point after those before it
 pub run_more : (halves : List ℕ) (bits from to carrier k : ℕ) (t : Bool) (p : Point) (d₀ d d' : List Float)
@@ -106,32 +102,36 @@ run_more halves bits from to carrier k t p d₀ d d' made filled put =
 pub record RunIn (run : Run) (base size : ℕ) : Type 0 where
   pub near : run.place + run.count ≤ 114
   pub inside : base + 2 * run.place + 2 * run.count ≤ size
-  pub pilot_inside : run.piloted ≡ true → base + 2 * run.place + 2 * run.count + 2 ≤ size
+  pub pilot_inside : (q : ℕ) → run.pilot ≡ Some q → base + 2 * run.place + 2 * run.count + 2 ≤ size
 
 -- a stream's run
-module _ {out : List Float} {halves : List ℕ} {table : List Float} {p : Plan} {n i base from : ℕ} (asked : StreamAsked out halves table p n i base from)
-    (run : Run) (right : RunRight p.width run) where
+module _ {out : List Float} {s : Stream} (asked : StreamAsked out s) (run : Run) (right : RunRight s.plan.width run) where
   -- stands inside the stream
-  pub run_in : RunIn run base (length out)
+  pub run_in : RunIn run s.base (length out)
   run_in = record {
-    near = omega (arith, right.inside, places_few p.width);
+    near = omega (arith, right.inside, places_few s.plan.width);
     inside = omega (arith, right.inside, asked.room);
-    pilot_inside = λ e. omega (arith, right.inside, asked.room, pilot_counts (run.place + run.count) run.piloted e);
+    pilot_inside = λ q e. omega (arith, right.inside, asked.room, pilot_counts (run.place + run.count) q run.pilot e);
   }
 
   -- what its carriers ask
-  pub run_points_asked : RunAsked out halves table p.bits from (base + 2 * run.place) run.carrier run.count
-  run_points_asked = record {
+  pub carriers_asked : RunAsked out s (s.base + 2 * run.place) run
+  carriers_asked = record {
     known = asked.fits.bits;
     tabled = asked.tabled;
     stands = halves_fewer asked.stands (run.carrier + run.count) (omega (arith, right.carriers_inside, asked.fits.carriers_is));
     room = run_in.inside;
-    few = omega (arith, right.carriers_inside, carriers_few p.width);
+    few = omega (arith, right.carriers_inside, carriers_few s.plan.width);
   }
 
   -- what its pilot asks
-  pub pilot_asked : run.piloted ≡ true → PilotAsked p.width p.streams i run.pilot
-  pilot_asked e = record { known_width = asked.fits.width; known_streams = asked.fits.streams; stream = asked.stream; place = right.pilot_inside e }
+  pub pilot_asked : (q : ℕ) → run.pilot ≡ Some q → PilotAsked s.plan.width s.plan.streams s.i q
+  pilot_asked q e = record {
+    known_width = asked.fits.width;
+    known_streams = asked.fits.streams;
+    stream = asked.stream;
+    place = right.pilot_inside q e;
+  }
 
 -- a level of a stream, by the use and the side of the subcarrier that it stands on
 level_at : (p : Plan) (h : ℕ → ℕ → ℕ) (format n i x f j : ℕ) (u : Use) (t : Bool)
@@ -141,93 +141,75 @@ unfolding stream_level
 level_at p h format n i x f j u t ef ej eu et = rw (ef, ej, eu, et)
 
 -- floats of a run that begins at a and has b carriers, with a pilot and without
-span : (a b : ℕ) (t : Bool) → t ≡ true → 2 * (b + 1) ≡ 2 * (a + b + cond t 1 0 - a)
-span a b t e = rw e (omega arith)
+span : (a b q : ℕ) (t : Option ℕ) → t ≡ Some q → 2 * (b + 1) ≡ 2 * (a + b + cond (is_some t) 1 0 - a)
+span a b q t e = rw e (omega arith)
 
-short_span : (a b : ℕ) (t : Bool) → t ≡ false → 2 * b ≡ 2 * (a + b + cond t 1 0 - a)
+short_span : (a b : ℕ) (t : Option ℕ) → t ≡ None → 2 * b ≡ 2 * (a + b + cond (is_some t) 1 0 - a)
 short_span a b t e = rw e (omega arith)
 
 -- what a run and its pilot fill
-abbrev RunFilled : (p : Plan) (halves : List ℕ) (polarity n i base from : ℕ) (d₀ d : List Float) → Run → Type 0
-RunFilled p halves polarity n i base from d₀ d run = (format : ℕ) → polarity ≡ polarity_bit format n
-    → Filled nan (base + 2 * run.place) (λ g. whole (stream_level p (λ j. halves_from halves from) format n i (2 * run.place + g)))
+abbrev RunFilled : (s : Stream) (d₀ d : List Float) → Run → Type 0
+RunFilled s d₀ d run = (format : ℕ) → s.polarity ≡ polarity_bit format s.n
+    → Filled nan (s.base + 2 * run.place)
+    (λ g. whole (stream_level s.plan (λ j. own_half s) format s.n s.i (2 * run.place + g)))
     (2 * (run_end run - run.place)) d₀ d
 
-module _ (p : Plan) (halves : List ℕ) (polarity n i base from r : ℕ) (run : Run) (told : run ≡ run_of p.width r) (right : RunRight p.width run) where
+module _ (s : Stream) (r : ℕ) (run : Run) (told : run ≡ run_of s.plan.width r) (right : RunRight s.plan.width run) where
   -- level g from the run's first on
   abbrev level : (format g : ℕ) → ℤ
-  level format g = stream_level p (λ j. halves_from halves from) format n i (2 * run.place + g)
+  level format g = stream_level s.plan (λ j. own_half s) format s.n s.i (2 * run.place + g)
 
   -- the run's carriers as levels of the stream
-  carriers_filled : (format : ℕ) (d₀ d : List Float)
-      → Filled nan (base + 2 * run.place) (λ g. whole (run_level halves p.bits from run.carrier run.turned g)) (2 * run.count) d₀ d
-      → Filled nan (base + 2 * run.place) (λ g. whole (level format g)) (2 * run.count) d₀ d
+  carriers_filled : (format : ℕ) (d₀ d : List Float) → CarriersFilled s (s.base + 2 * run.place) run d₀ d
+      → Filled nan (s.base + 2 * run.place) (λ g. whole (level format g)) (2 * run.count) d₀ d
   carriers_filled format d₀ d filled =
-      fill_as nan (base + 2 * run.place) _ (λ g. whole (level format g)) (2 * run.count) d₀ d
+      fill_as nan (s.base + 2 * run.place) _ (λ g. whole (level format g)) (2 * run.count) d₀ d
       (λ g h. ap whole
-      (level_at p (λ j. halves_from halves from) format n i (2 * run.place + g) (run.place + g / 2) (g % 2) (Data (run.carrier + g / 2)) run.turned
+      (level_at s.plan (λ j. own_half s) format s.n s.i (2 * run.place + g) (run.place + g / 2) (g % 2)
+      (Data (run.carrier + g / 2)) run.turned
       (omega arith) (omega arith) (right.carries (g / 2) (omega arith)) (right.side (g / 2) (omega arith))))
       filled
 
   -- a run without a pilot
-  pub run_filled : (d₀ d : List Float) → run.piloted ≡ false
-      → Filled nan (base + 2 * run.place) (λ g. whole (run_level halves p.bits from run.carrier run.turned g)) (2 * run.count) d₀ d
-      → SegmentFilled p halves polarity n i base from r d₀ d
+  pub run_filled : (d₀ d : List Float) → run.pilot ≡ None → CarriersFilled s (s.base + 2 * run.place) run d₀ d → SegmentFilled s r d₀ d
   run_filled d₀ d ends filled =
-      subst (RunFilled p halves polarity n i base from d₀ d) told
-      (λ format e. fill_end nan (base + 2 * run.place) (λ g. whole (level format g)) (short_span run.place run.count run.piloted ends)
+      subst (RunFilled s d₀ d) told
+      (λ format e. fill_end nan (s.base + 2 * run.place) (λ g. whole (level format g)) (short_span run.place run.count run.pilot ends)
       (carriers_filled format d₀ d filled))
 
-  -- the pilot's sign is one of 1 and -1, and the symbol's polarity is in it
-  pilot_whole : (format : ℕ) (sign : Float) → PilotAsked p.width p.streams i run.pilot → polarity ≡ polarity_bit format n
-      → sign ≡ whole (pattern_of p.width p.streams i ((n + run.pilot) % pilots_of p.width) *ℤ sign_of polarity)
-      → (nat_abs (pilot_sign p.width p.streams format n i run.pilot) < 8) × (sign ≡ whole (pilot_sign p.width p.streams format n i run.pilot))
-  pilot_whole format sign asked e signed = (
-    omega (arith, pilot_one p.width p.streams format n i run.pilot asked),
-    signed ∙ ap (λ (b : ℕ). whole (pattern_of p.width p.streams i ((n + run.pilot) % pilots_of p.width) *ℤ sign_of b)) e
-        ∙ ap whole (sym (pilot_is p.width p.streams format n i run.pilot)),
-  )
+  -- the sign of pilot q is one of 1 and -1, and the symbol's polarity is in it
+  module _ (q : ℕ) (sign : Float) (asked : PilotAsked s.plan.width s.plan.streams s.i q)
+      (signed : sign ≡ whole (pattern_of s.plan.width s.plan.streams s.i ((s.n + q) % pilots_of s.plan.width) *ℤ sign_of s.polarity)) where
+    pilot_whole : (format : ℕ) → s.polarity ≡ polarity_bit format s.n
+        → (nat_abs (pilot_sign s.plan.width s.plan.streams format s.n s.i q) < 8)
+        × (sign ≡ whole (pilot_sign s.plan.width s.plan.streams format s.n s.i q))
+    pilot_whole format e = (
+      omega (arith, pilot_one s.plan.width s.plan.streams format s.n s.i q asked),
+      signed ∙ ap (λ (b : ℕ). whole (pattern_of s.plan.width s.plan.streams s.i ((s.n + q) % pilots_of s.plan.width) *ℤ sign_of b)) e
+          ∙ ap whole (sym (pilot_is s.plan.width s.plan.streams format s.n s.i q)),
+    )
 
-  -- a run and its pilot
-  pub pilot_filled : (d₀ d d' : List Float) (sign : Float) (point : Point) → run.piloted ≡ true → PilotAsked p.width p.streams i run.pilot
-      → Filled nan (base + 2 * run.place) (λ g. whole (run_level halves p.bits from run.carrier run.turned g)) (2 * run.count) d₀ d
-      → sign ≡ whole (pattern_of p.width p.streams i ((n + run.pilot) % pilots_of p.width) *ℤ sign_of polarity)
-      → point ≡ pilot_point sign run.turned → Filled nan (base + 2 * run.place + 2 * run.count) (axis_of point) 2 d d'
-      → SegmentFilled p halves polarity n i base from r d₀ d'
-  pilot_filled d₀ d d' sign point piloted asked filled signed pilot put =
-      subst (RunFilled p halves polarity n i base from d₀ d') told
-      (λ format e.
-      let w = pilot_whole format sign asked e signed in
-      let s = pilot_sign p.width p.streams format n i run.pilot in
-      fill_end nan (base + 2 * run.place) (λ g. whole (level format g)) (span run.place run.count run.piloted piloted)
-      (point_more (base + 2 * run.place) run.count (level format) point (turned_if run.turned (levels s (pos 0))) d₀ d d'
-      (pilot ∙ pilot_point_whole sign run.turned s w.0 w.1)
-      (λ g h.
-      level_at p (λ j. halves_from halves from) format n i (2 * run.place + (2 * run.count + g)) (run.place + run.count) g (Pilot run.pilot) run.turned
-      (omega arith) (omega arith) (right.pilot_use piloted) (right.pilot_side piloted))
-      (carriers_filled format d₀ d filled) put))
-
--- where run r begins: where the run before it ends; after the last run, where the stream ends
-abbrev pub run_start : (width r : ℕ) → ℕ
-run_start width zero = 0
-run_start width (suc r) = run_end (run_of width r)
-
-pub start_next : (width r : ℕ) → run_start width (r + 1) ≡ run_end (run_of width r)
-start_next width r = rw (add-one r)
-
-pub start_place : (width : ℕ) → RunsRight width → (r : ℕ) → r < 2 * half_runs width → run_start width r ≡ (run_of width r).place
-start_place width right zero h = sym right.first
-start_place width right (suc r) h = sym (right.next r (omega arith)) ∙ ap (λ (k : ℕ). (run_of width k).place) (add-one r)
-
-pub start_end : (width : ℕ) → RunsRight width → 0 < 2 * half_runs width → run_start width (2 * half_runs width) ≡ places_of width
-start_end width right some =
-    let one : 2 * half_runs width ≡ 2 * half_runs width - 1 + 1 = omega arith in
-    ap (run_start width) one ∙ start_next width (2 * half_runs width - 1) ∙ right.last
+    -- a run and its pilot
+    pub pilot_filled : (d₀ d d' : List Float) (point : Point) → run.pilot ≡ Some q → CarriersFilled s (s.base + 2 * run.place) run d₀ d
+        → point ≡ pilot_point sign run.turned → Filled nan (s.base + 2 * run.place + 2 * run.count) (axis_of point) 2 d d'
+        → SegmentFilled s r d₀ d'
+    pilot_filled d₀ d d' point piloted filled pilot put =
+        subst (RunFilled s d₀ d') told
+        (λ format e.
+        let w = pilot_whole format e in
+        let l = pilot_sign s.plan.width s.plan.streams format s.n s.i q in
+        fill_end nan (s.base + 2 * run.place) (λ g. whole (level format g)) (span run.place run.count q run.pilot piloted)
+        (point_more (s.base + 2 * run.place) run.count (level format) point (turned_if run.turned (levels l (pos 0))) d₀ d d'
+        (pilot ∙ pilot_point_whole sign run.turned l w.0 w.1)
+        (λ g h.
+        level_at s.plan (λ j. own_half s) format s.n s.i (2 * run.place + (2 * run.count + g)) (run.place + run.count) g
+        (Pilot q) run.turned (omega arith) (omega arith) (right.pilot_use q piloted) (right.pilot_side q piloted))
+        (carriers_filled format d₀ d filled) put))
 
 -- what the runs before run r fill of a stream
-abbrev pub PartFilled : (p : Plan) (halves : List ℕ) (polarity n i base from r : ℕ) (d₀ d : List Float) → Type 0
-PartFilled p halves polarity n i base from r d₀ d = (format : ℕ) → polarity ≡ polarity_bit format n
-    → Filled nan base (λ g. whole (stream_level p (λ j. halves_from halves from) format n i g)) (2 * run_start p.width r) d₀ d
+abbrev pub PartFilled : (s : Stream) (r : ℕ) (d₀ d : List Float) → Type 0
+PartFilled s r d₀ d = (format : ℕ) → s.polarity ≡ polarity_bit format s.n
+    → Filled nan s.base (λ g. whole (stream_level s.plan (λ j. own_half s) format s.n s.i g)) (2 * run_start s.plan.width r) d₀ d
 
 -- floats up to a run's first and its own are those up to its end
 next_span : (a b c : ℕ) → a ≤ b → c ≡ b → 2 * a + 2 * (b - a) ≡ 2 * c
@@ -236,33 +218,37 @@ next_span a b c h e = omega arith
 ends_after : (run : Run) → run.place ≤ run_end run
 ends_after run = omega arith
 
-module _ (p : Plan) (fits : Fits p) (halves : List ℕ) (polarity n i base from : ℕ) where
+module _ (s : Stream) (fits : Fits s.plan) where
   -- the stream's runs and its floats
-  runs : RunsRight p.width
-  runs = runs_right p.width fits.width
+  runs : RunsRight s.plan.width
+  runs = runs_right s.plan.width fits.width
 
   abbrev streamed : (format g : ℕ) → Float
-  streamed format g = whole (stream_level p (λ j. halves_from halves from) format n i g)
+  streamed format g = whole (stream_level s.plan (λ j. own_half s) format s.n s.i g)
 
   -- before the first run
-  pub part_none : (d : List Float) → PartFilled p halves polarity n i base from 0 d d
-  part_none d = λ format e. fill_none nan base (streamed format) d
+  pub part_none : (d : List Float) → PartFilled s 0 d d
+  part_none d = λ format e. fill_none nan s.base (streamed format) d
 
   -- a run more
-  pub part_more : (r : ℕ) (d₀ d d' : List Float) → r < 2 * half_runs p.width → PartFilled p halves polarity n i base from r d₀ d
-      → SegmentFilled p halves polarity n i base from r d d' → PartFilled p halves polarity n i base from (r + 1) d₀ d'
+  pub part_more : (r : ℕ) (d₀ d d' : List Float) → r < 2 * half_runs s.plan.width → PartFilled s r d₀ d
+      → SegmentFilled s r d d' → PartFilled s (r + 1) d₀ d'
   part_more r d₀ d d' h part segment = λ format e.
-      let run = run_of p.width r in
-      fill_end nan base (streamed format) (next_span run.place (run_end run) (run_start p.width (r + 1)) (ends_after run) (start_next p.width r))
-      (fill_join nan base (streamed format) (2 * run.place) (2 * (run_end run - run.place)) d₀ d d'
-      (fill_end nan base (streamed format) (ap (λ (k : ℕ). 2 * k) (start_place p.width runs r h)) (part format e)) (segment format e))
+      let run = run_of s.plan.width r in
+      fill_end nan s.base (streamed format)
+      (next_span run.place (run_end run) (run_start s.plan.width (r + 1)) (ends_after run) (start_next s.plan.width r))
+      (fill_join nan s.base (streamed format) (2 * run.place) (2 * (run_end run - run.place)) d₀ d d'
+      (fill_end nan s.base (streamed format) (ap (λ (k : ℕ). 2 * k) (start_place s.plan.width runs r h)) (part format e))
+      (segment format e))
 
   -- all runs are the stream
-  pub part_end : (r : ℕ) (d₀ d : List Float) → r ≡ 2 * half_runs p.width → PartFilled p halves polarity n i base from r d₀ d
-      → StreamFilled p halves polarity n i base from d₀ d
+  pub part_end : (r : ℕ) (d₀ d : List Float) → r ≡ 2 * half_runs s.plan.width → PartFilled s r d₀ d
+      → StreamFilled s d₀ d
   part_end r d₀ d h part = λ format e.
-      fill_end nan base (streamed format)
-      (ap (λ (k : ℕ). 2 * run_start p.width k) h ∙ ap (λ (k : ℕ). 2 * k) (start_end p.width runs (runs_some p.width fits.width))) (part format e)
+      fill_end nan s.base (streamed format)
+      (ap (λ (k : ℕ). 2 * run_start s.plan.width k) h
+      ∙ ap (λ (k : ℕ). 2 * k) (start_end s.plan.width runs (runs_some s.plan.width fits.width)))
+      (part format e)
 
 -- a stream's levels depend on its own half labels only
 own_halves : (p : Plan) (halves : List ℕ) (count format n i g : ℕ)
@@ -271,20 +257,21 @@ unfolding stream_level
 own_halves p halves count format n i g = refl
 
 -- a stream more of a symbol
-pub stream_more : (p : Plan) (halves : List ℕ) (polarity format n i floats count : ℕ) (d₀ d d' : List Float)
-    → floats ≡ stream_floats p.width → count ≡ halves_of p → polarity ≡ polarity_bit format n
+pub stream_more : (p : Plan) (halves : List ℕ) (format n i floats count : ℕ) (d₀ d d' : List Float)
+    → floats ≡ stream_floats p.width → count ≡ halves_of p
     → Filled nan 0 (symbol_float p (halves_in halves (halves_of p)) format n) (i * stream_floats p.width) d₀ d
-    → StreamFilled p halves polarity n i (i * floats) (i * count) d d'
+    → Filled nan (i * floats) (λ g. whole (stream_level p (λ j. halves_from halves (i * count)) format n i g)) (stream_floats p.width) d d'
     → Filled nan 0 (symbol_float p (halves_in halves (halves_of p)) format n) ((i + 1) * stream_floats p.width) d₀ d'
-stream_more p halves polarity format n i floats count d₀ d d' sized counted e filled stream =
+stream_more p halves format n i floats count d₀ d d' sized counted filled stream =
     let size = stream_floats p.width in
     let h = halves_in halves (halves_of p) in
-    let own : StreamFilled p halves polarity n i (i * size) (i * halves_of p) d d' = rw (sized, counted) at stream in
+    let own : Filled nan (i * size) (λ g. whole (stream_level p (λ j. halves_from halves (i * halves_of p)) format n i g)) size d d' =
+    rw (sized, counted) at stream in
     fill_end nan 0 (symbol_float p h format n) (omega arith)
     (fill_join nan 0 (symbol_float p h format n) (i * size) size d₀ d d' filled
     (fill_from nan (λ g. symbol_float p h format n (i * size + g)) (sym (zero-add (i * size)))
     (fill_as nan (i * size) _ (λ g. symbol_float p h format n (i * size + g)) size d d'
-    (λ g l. ap whole (own_halves p halves (halves_of p) format n i g) ∙ sym (stream_float p h format n i g l)) (own format e))))
+    (λ g l. ap whole (own_halves p halves (halves_of p) format n i g) ∙ sym (stream_float p h format n i g l)) own)))
 
 -- where stream i's floats and half labels stand
 pub record StreamIn (p : Plan) (i floats count : ℕ) : Type 0 where
@@ -305,11 +292,13 @@ stream_in_lem p i floats count fits h sized counted = record {
     below k = omega (arith, rw suc-mul at (mul-le-mul_right k h))
 
 -- what a stream of a symbol asks
-pub stream_asked : (out out₀ : List Float) (halves : List ℕ) (table : List Float) (p : Plan) (n i floats count : ℕ)
-    → SymbolAsked out₀ halves p n → length out ≡ length out₀ → LevelTable (axis_bits p.bits) table → i < p.streams
-    → floats ≡ stream_floats p.width → count ≡ halves_of p → StreamAsked out halves table p n i (i * floats) (i * count)
-stream_asked out out₀ halves table p n i floats count asked same tabled h sized counted =
-    let s = stream_in_lem p i floats count asked.fits h sized counted in
+pub stream_asked : (out out₀ : List Float) (s : Stream) (floats count : ℕ)
+    → SymbolAsked out₀ s.halves.now s.plan s.n → length out ≡ length out₀
+    → LevelTable (axis_bits s.plan.bits) s.table.now → s.i < s.plan.streams
+    → s.base ≡ s.i * floats → s.from ≡ s.i * count → floats ≡ stream_floats s.plan.width → count ≡ halves_of s.plan → StreamAsked out s
+stream_asked out out₀ s floats count asked same tabled h at from sized counted =
+    let p = s.plan in
+    let t = stream_in_lem p s.i floats count asked.fits h sized counted in
     let c = all_halves p asked.fits in
     let spread : p.streams * floats ≡ p.streams * stream_floats p.width = ap (λ (k : ℕ). p.streams * k) sized in
     let halved : p.streams * count ≡ p.streams * halves_of p = ap (λ (k : ℕ). p.streams * k) counted in
@@ -317,10 +306,10 @@ stream_asked out out₀ halves table p n i floats count asked same tabled h size
       fits = asked.fits;
       tabled = tabled;
       stands = record {
-        inside = omega (arith, s, c, halved, asked.whole_halves);
-        label = λ m l. rw counted (asked.label i m h (omega arith));
+        inside = rw from (omega (arith, t, c, halved, asked.whole_halves));
+        label = λ m l. rw (from, counted) (asked.label s.i m h (omega arith));
       };
       stream = h;
       near = asked.near;
-      room = omega (arith, s, spread, asked.room);
+      room = rw at (omega (arith, t, spread, asked.room));
     }

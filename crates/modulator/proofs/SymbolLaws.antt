@@ -1,13 +1,8 @@
 -- The points of a symbol: which half labels they come from, and that they tell half labels apart. Assumes nothing.
-use mathlib.Core.Path.{◌≡◌, ◌∙◌, refl, sym, ap, ap₂}
-use mathlib.Core.Bool.{Bool, true, false, cond}
-use Prim.Native.Nat.{ℕ, zero, suc, ◌+◌, ◌*◌, ◌/◌, ◌%◌, ◌^◌, ◌<◌}
-use native.Mathlib.Nat.{mod-lt, div-lt_iff_lt-mul}
-use native.Mathlib.Omega.{arith}
-use borrow.Author.Tests.{eqb-true, eqb-false}
+use Rattle.std.proofs.Common.{◌≡◌, ◌∙◌, refl, sym, ap, ap₂, Bool, true, false, cond, ℕ, zero, suc, ◌+◌, ◌*◌, ◌/◌, ◌%◌, ◌^◌, ◌<◌, mod-lt}
+use Rattle.std.proofs.Common.{div-lt_iff_lt-mul, arith, eqb-true, eqb, ℤ, pos}
+use borrow.Author.Tests.{eqb-false}
 use lib.Arith.{digits_lt}
-use lib.Dec.{eqb}
-use lib.IntN.{ℤ, pos}
 use lib.Ieee.{binary32, to_bits}
 use Rattle.laws.proofs.Radix.{rem_of, quot_of}
 use Rattle.chain.specs.declared.plan.Plan.{Plan}

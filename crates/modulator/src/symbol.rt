@@ -7,52 +7,13 @@ ghost use Rattle.mapper.specs.Levels.{whole, carrier_levels, point_of};
 ghost use Rattle.mapper.specs.Mapped.{PointAsked};
 ghost use Rattle.subcarriers.specs.Runs.{half_runs};
 ghost use Rattle.modulator.specs.Symbol.{turned_if, stream_floats, symbol_float};
-ghost use Rattle.modulator.specs.Asked.{halves_from, halves_in, run_level, RunAsked, pilot_point, StreamAsked, SegmentFilled, StreamFilled, SymbolAsked};
+ghost use Rattle.modulator.specs.Asked.{own_half, halves_in, RunAsked, CarriersFilled, pilot_point, StreamAsked, SegmentFilled};
+ghost use Rattle.modulator.specs.Asked.{StreamFilled, SymbolAsked};
 
 use chain::plan::{Plan, axis_bits};
 use mapper::point::{Point, data_point, level_table, put_point, turn};
 use pilots::pilot::{pilot_sign, polarity_bit};
-use subcarriers::layout::{places_of, run_of, runs_of};
-
-// A data carrier's point as it is sent.
-fn sent_point(
-    halves: &[u8],
-    table: &[f32],
-    bits: usize,
-    from: usize,
-    c: usize,
-    turned: bool,
-) -> Point
-    requires { PointAsked halves.now table.now bits from c }
-    ensures { result ≡ point_of (turned_if turned (carrier_levels bits (halves_from halves.now from) c)) }
-{
-    let p = data_point(halves, table, bits, from, c);
-    if turned { turn(p) } else { p }
-}
-
-// The points of `count` data carriers at neighbouring places.
-fn run_points(
-    out: &mut [f32],
-    halves: &[u8],
-    table: &[f32],
-    bits: usize,
-    from: usize,
-    to: usize,
-    carrier: usize,
-    count: usize,
-    turned: bool,
-)
-    requires { RunAsked out.old halves.now table.now bits from to carrier count }
-    ensures { Filled nan to (λ g. whole (run_level halves.now bits from carrier turned g)) (2 * count) out.old out.new }
-{
-    for k in 0..count {
-        put_point(
-            out,
-            to + 2 * k,
-            sent_point(halves, table, bits, from, carrier + k, turned),
-        );
-    }
-}
+use subcarriers::layout::{Run, places_of, run_of, runs_of};
 
 // A pilot's point as it is sent: its sign on the first level before the turn.
 pub fn pilot_point(sign: f32, turned: bool) -> Point
@@ -65,59 +26,73 @@ pub fn pilot_point(sign: f32, turned: bool) -> Point
     if turned { turn(p) } else { p }
 }
 
-// Run r of stream i's points, and the pilot after it.
-fn segment_points(
-    out: &mut [f32],
-    halves: &[u8],
-    table: &[f32],
+// What the points of stream i in symbol n are made of: half labels from place `from` on, their levels, the polarity of the symbol's pilots.
+// They are written from place `base` on.
+#[derive(Clone, Copy)]
+struct Stream<'a> {
     plan: Plan,
+    halves: &'a [u8],
+    table: &'a [f32],
     polarity: u8,
     n: usize,
     i: usize,
-    base: usize,
     from: usize,
-    r: usize,
-)
-    requires { StreamAsked out.old halves.now table.now plan n i base from × ((polarity < 2) × (r < 2 * half_runs plan.width)) }
-    ensures { SegmentFilled plan halves.now polarity n i base from r out.old out.new }
-{
-    let run = run_of(plan.width, r);
-    let to = base + 2 * run.place;
-    run_points(
-        out,
-        halves,
-        table,
-        plan.bits,
-        from,
-        to,
-        run.carrier,
-        run.count,
-        run.turned,
-    );
-    if run.piloted {
-        let sign = pilot_sign(plan.width, plan.streams, n, i, run.pilot, polarity);
-        put_point(out, to + 2 * run.count, pilot_point(sign, run.turned));
-    }
+    base: usize,
 }
 
-// Stream i's points.
-fn stream_points(
-    out: &mut [f32],
-    halves: &[u8],
-    table: &[f32],
-    plan: Plan,
-    polarity: u8,
-    n: usize,
-    i: usize,
-    base: usize,
-    from: usize,
-)
-    requires { StreamAsked out.old halves.now table.now plan n i base from × (polarity < 2) }
-    ensures { StreamFilled plan halves.now polarity n i base from out.old out.new }
-{
-    let runs = runs_of(plan.width);
-    for r in 0..runs {
-        segment_points(out, halves, table, plan, polarity, n, i, base, from, r);
+impl Stream<'_> {
+    // A data carrier's point as it is sent.
+    fn sent_point(&self, c: usize, turned: bool) -> Point
+        requires { PointAsked self.now.halves.now self.now.table.now self.now.plan.bits self.now.from c }
+        ensures { result ≡ point_of (turned_if turned (carrier_levels self.now.plan.bits (own_half self.now) c)) }
+    {
+        let p = data_point(self.halves, self.table, self.plan.bits, self.from, c);
+        if turned { turn(p) } else { p }
+    }
+
+    // The points of a run's data carriers, from place `to` on.
+    fn put_carriers(&self, out: &mut [f32], to: usize, run: Run)
+        requires { RunAsked out.old self.now to run }
+        ensures { CarriersFilled self.now to run out.old out.new }
+    {
+        for k in 0..run.count {
+            put_point(
+                out,
+                to + 2 * k,
+                self.sent_point(run.carrier + k, run.turned),
+            );
+        }
+    }
+
+    // Run r of the stream's points, and the pilot after it.
+    fn put_run(&self, out: &mut [f32], r: usize)
+        requires { StreamAsked out.old self.now × ((self.now.polarity < 2) × (r < 2 * half_runs self.now.plan.width)) }
+        ensures { SegmentFilled self.now r out.old out.new }
+    {
+        let run = run_of(self.plan.width, r);
+        let to = self.base + 2 * run.place;
+        self.put_carriers(out, to, run);
+        if let Some(pilot) = run.pilot {
+            let sign = pilot_sign(
+                self.plan.width,
+                self.plan.streams,
+                self.n,
+                self.i,
+                pilot,
+                self.polarity,
+            );
+            put_point(out, to + 2 * run.count, pilot_point(sign, run.turned));
+        }
+    }
+
+    // All the stream's points.
+    fn put_points(&self, out: &mut [f32])
+        requires { StreamAsked out.old self.now × (self.now.polarity < 2) }
+        ensures { StreamFilled self.now out.old out.new }
+    {
+        for r in 0..runs_of(self.plan.width) {
+            self.put_run(out, r);
+        }
     }
 }
 
@@ -131,18 +106,17 @@ pub fn symbol_points(out: &mut [f32], halves: &[u8], plan: Plan, format: usize, 
     let polarity = polarity_bit(format, n);
     let count = plan.block / s;
     let floats = 2 * places_of(plan.width);
-    let streams = plan.streams;
-    for i in 0..streams {
-        stream_points(
-            out,
-            halves,
-            &table,
+    for i in 0..plan.streams {
+        let stream = Stream {
             plan,
+            halves,
+            table: &table,
             polarity,
             n,
             i,
-            i * floats,
-            i * count,
-        );
+            from: i * count,
+            base: i * floats,
+        };
+        stream.put_points(out);
     }
 }

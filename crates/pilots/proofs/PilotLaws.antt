@@ -1,12 +1,6 @@
 -- The pilots' signs: what the code's numbers stand for, and what holds of every pilot. Assumes nothing.
-use mathlib.Core.Path.{◌≡◌, ◌∙◌, refl, sym, ap}
-use mathlib.Core.Bool.{Bool, true, false, cond}
-use mathlib.Core.List.{List}
-use Prim.Native.Nat.{ℕ, ◌+◌, ◌-◌, ◌*◌, ◌/◌, ◌%◌, ◌^◌, ◌<◌}
-use native.Mathlib.Omega.{arith}
-use lib.Dec.{T, eqb, lit<}
-use lib.ListN.{get_or}
-use lib.IntN.{ℤ, nat_abs, ◌*ℤ◌}
+use Rattle.std.proofs.Common.{◌≡◌, ◌∙◌, refl, sym, ap, Bool, true, false, cond, List, [], ℕ, ◌+◌, ◌-◌, ◌/◌, ◌%◌, ◌^◌, ◌<◌, arith, T}
+use Rattle.std.proofs.Common.{eqb, lit<, get_or, ℤ, nat_abs, ◌*ℤ◌}
 use Rattle.laws.specs.Claim.{Claim, ◌is◌, ◌under◌, ◌and◌, up_to, each, Holds, test, sound}
 use Rattle.laws.specs.Test.{among}
 use Rattle.laws.specs.Integers.{counted}
@@ -57,16 +51,6 @@ range_claim = each stream_counts λ s. (0 under s) and (s under 5)
 pub streams_range : (streams : ℕ) → T (among stream_counts streams) → (0 < streams) × (streams < 5)
 streams_range = sound range_claim tt
 
--- rows of the tables before those of so many streams; all rows are 10
-abbrev rows_before : ℕ → ℕ
-rows_before streams = streams * (streams - 1) / 2
-
-abbrev bounds_claim : Claim
-bounds_claim = each stream_counts λ s. up_to s λ i. (rows_before s + i) under 10
-
-pub row_small : (streams i row : ℕ) → T (among stream_counts streams) → i < streams → row ≡ rows_before streams → row + i < 10
-row_small streams i row known h e = rw e (sound bounds_claim tt streams known i h)
-
 -- a row has at most 6 values
 few_values : (b : Bool) → cond b 6 4 < 7
 few_values true = lit< tt
@@ -75,29 +59,29 @@ few_values false = lit< tt
 pub value_small : (width k : ℕ) → k < pilots_of width → k < 6
 value_small width k h = omega (arith, few_values (eqb width 40))
 
--- bit k of a row, under a name that stays shut where the rows are read off a goal
-unfoldable pub bit_in : (rows : List ℕ) (row k : ℕ) → ℕ
-bit_in rows row k = get_or rows row 0 / 2 ^ k % 2
+-- bit k of row i, under a name that stays shut where the rows are read off a goal
+unfoldable pub bit_in : (rows : List ℕ) (i k : ℕ) → ℕ
+bit_in rows i k = get_or rows i 0 / 2 ^ k % 2
 
-pub bit_in_lem : (rows : List ℕ) (row k : ℕ) → get_or rows row 0 / 2 ^ k % 2 ≡ bit_in rows row k
+pub bit_in_lem : (rows : List ℕ) (i k : ℕ) → get_or rows i 0 / 2 ^ k % 2 ≡ bit_in rows i k
 unfolding bit_in
-bit_in_lem rows row k = refl
+bit_in_lem rows i k = refl
 
--- rows of bits say the minus signs of a width's table
-abbrev pub rows_claim : (rows : List ℕ) (width : ℕ) → Claim
-rows_claim rows width =
+-- a table of bits says the minus signs of a width's table
+abbrev pub rows_claim : (table : List (List ℕ)) (width : ℕ) → Claim
+rows_claim table width =
     each stream_counts λ s. up_to s λ i. up_to (pilots_of width) λ k.
-    counted (sign_of (get_or rows (rows_before s + i) 0 / 2 ^ k % 2)) is counted (pattern_of width s i k)
+    counted (sign_of (get_or (get_or table (s - 1) []) i 0 / 2 ^ k % 2)) is counted (pattern_of width s i k)
 
--- where they do, a bit of a stream's row says that stream's value
-pub row_says : (rows : List ℕ) (w width streams i k row : ℕ)
-    → T (test (rows_claim rows w)) → width ≡ w → PilotAsked width streams i k → row ≡ rows_before streams
-    → (sign_of (bit_in rows (row + i) k) ≡ pattern_of width streams i k) × (bit_in rows (row + i) k < 2)
+-- where it does, a bit of a stream's row says that stream's value
+pub row_says : (table : List (List ℕ)) (w width streams i k : ℕ) (rows : List ℕ)
+    → T (test (rows_claim table w)) → width ≡ w → PilotAsked width streams i k → rows ≡ get_or table (streams - 1) []
+    → (sign_of (bit_in rows i k) ≡ pattern_of width streams i k) × (bit_in rows i k < 2)
 unfolding bit_in
-row_says rows w width streams i k row right e asked there =
-    let says : sign_of (get_or rows (row + i) 0 / 2 ^ k % 2) ≡ pattern_of width streams i k =
-    ap (λ (r : ℕ). sign_of (get_or rows (r + i) 0 / 2 ^ k % 2)) there
-    ∙ counted_same _ _ (sound (rows_claim rows w) right streams asked.known_streams i asked.stream k (rw e at asked.place))
+row_says table w width streams i k rows right e asked there =
+    let says : sign_of (get_or rows i 0 / 2 ^ k % 2) ≡ pattern_of width streams i k =
+    ap (λ (r : List ℕ). sign_of (get_or r i 0 / 2 ^ k % 2)) there
+    ∙ counted_same _ _ (sound (rows_claim table w) right streams asked.known_streams i asked.stream k (rw e at asked.place))
     ∙ ap (λ (x : ℕ). pattern_of x streams i k) (sym e) in
     (says, omega arith)
 

@@ -1,15 +1,16 @@
 -- The subcarrier of a place as a difference of two small numbers, at 32 bits with a sign. Assumes nothing.
-use mathlib.Core.Path.{◌≡◌, ◌∙◌, sym, ap₂, subst}
-use Prim.Native.Nat.{ℕ, ◌+◌, ◌-◌, ◌<◌, ◌≤◌}
-use native.Mathlib.Omega.{arith}
-use lib.IntN.{ℤ, pos, negsuc, nat_abs, ◌-ℤ◌}
+use Rattle.std.proofs.Common.{◌≡◌, ◌∙◌, sym, ap, ap₂, subst, ℕ, ◌<◌, ◌≤◌, arith, ℤ, pos, negsuc, nat_abs, ◌-ℤ◌, cond, T, eqb, ltb}
+use Rattle.std.proofs.Common.{lt-ltb, le-ltb}
 use mir.Syntax.{w32}
 use mir.Val.{SFits, to_z, of_z}
 use mir.Facts.{to_z_pos, to_z-of_z}
+use Rattle.laws.specs.Test.{among}
 use Rattle.laws.specs.Integers.{counted}
-use Rattle.laws.specs.Claim.{Claim, ◌is◌, ◌under◌, ◌and◌, up_to, Holds, sound}
+use Rattle.laws.specs.Claim.{Claim, ◌is◌, ◌under◌, ◌and◌, up_to, each, given, Holds, sound}
 use Rattle.laws.proofs.Integers.{counted_same}
-use Rattle.subcarriers.specs.Subcarriers.{used_subcarriers, subcarrier_at}
+use Rattle.chain.specs.Plan.{widths}
+use Rattle.subcarriers.specs.Subcarriers.{used_subcarriers, places_of, subcarrier_at}
+use Rattle.subcarriers.proofs.SubcarrierLaws.{one}
 
 abbrev small_claim : Claim
 small_claim = up_to 114 λ f. up_to 64 λ k. nat_abs (pos f -ℤ pos k) under 128
@@ -32,32 +33,26 @@ module _ (f k : ℕ) (hf : f < 114) (hk : k < 64) where
   pub difference_is : to_z w32 (of_z w32 (to_z w32 f -ℤ to_z w32 k)) ≡ pos f -ℤ pos k
   difference_is = to_z-of_z difference_fits ∙ same
 
--- count places of a width from `from` on, each so many below its own number
-abbrev placed : (w from count below : ℕ) → Claim
-placed w from count below = up_to count λ k. counted (pos (from + k) -ℤ pos below) is counted (subcarrier_at w (from + k))
+-- where a width's places above 0 begin, and how far the places below 0 and those above are ahead of their own numbers
+abbrev pub Shifts : Type 0
+Shifts = ℕ × ℕ × ℕ
+
+abbrev pub shifts_of : (width : ℕ) → Shifts
+shifts_of width = cond (eqb width 40) (57, 58, 55) (28, 28, 27)
 
 abbrev number_claim : Claim
-number_claim = placed 40 0 57 58 and placed 40 57 57 55 and placed 20 0 28 28 and placed 20 28 28 27
+number_claim = each widths λ w. up_to (places_of w) λ f.
+    given (one (ltb f (shifts_of w).0)) 1 (counted (pos f -ℤ pos (shifts_of w).1) is counted (subcarrier_at w f))
+    and given (one (ltb f (shifts_of w).0)) 0 (counted (pos f -ℤ pos (shifts_of w).2) is counted (subcarrier_at w f))
 
 numbers : Holds number_claim
 unfolding subcarrier_at used_subcarriers
 numbers = sound number_claim tt
 
-number_at : (w v from count below : ℕ) → w ≡ v → Holds (placed v from count below) → (f : ℕ) → from ≤ f → f < from + count
-    → pos f -ℤ pos below ≡ subcarrier_at w f
-number_at w v from count below e h f low high =
-    let at : from + (f - from) ≡ f = omega arith in
-    rw e (subst (λ (k : ℕ). pos k -ℤ pos below ≡ subcarrier_at v k) at (counted_same _ _ (h (f - from) (omega arith))))
+-- the subcarriers of a width, below 0 and above
+module _ (width f : ℕ) (s : Shifts) (h : T (among widths width)) (inside : f < places_of width) (e : s ≡ shifts_of width) where
+  pub lower_number : f < s.0 → pos f -ℤ pos s.1 ≡ subcarrier_at width f
+  lower_number l = rw e (counted_same _ _ ((numbers width h f inside).0 (ap one (lt-ltb f (shifts_of width).0 (rw e at l)))))
 
--- the subcarriers of both widths, below 0 and above
-pub low_40 : (w f : ℕ) → w ≡ 40 → f < 57 → pos f -ℤ pos 58 ≡ subcarrier_at w f
-low_40 w f e h = number_at w 40 0 57 58 e numbers.0 f (omega arith) (omega arith)
-
-pub high_40 : (w f : ℕ) → w ≡ 40 → 57 ≤ f → f < 114 → pos f -ℤ pos 55 ≡ subcarrier_at w f
-high_40 w f e h l = number_at w 40 57 57 55 e numbers.1.0 f h l
-
-pub low_20 : (w f : ℕ) → w ≡ 20 → f < 28 → pos f -ℤ pos 28 ≡ subcarrier_at w f
-low_20 w f e h = number_at w 20 0 28 28 e numbers.1.1.0 f (omega arith) (omega arith)
-
-pub high_20 : (w f : ℕ) → w ≡ 20 → 28 ≤ f → f < 56 → pos f -ℤ pos 27 ≡ subcarrier_at w f
-high_20 w f e h l = number_at w 20 28 28 27 e numbers.1.1.1 f h l
+  pub upper_number : s.0 ≤ f → pos f -ℤ pos s.2 ≡ subcarrier_at width f
+  upper_number l = rw e (counted_same _ _ ((numbers width h f inside).1 (ap one (le-ltb f (shifts_of width).0 (rw e at l)))))

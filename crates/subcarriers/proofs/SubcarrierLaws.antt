@@ -1,14 +1,8 @@
 -- The layout's laws: each a claim computed at both widths and every subcarrier, place or data carrier. Assumes nothing.
-use mathlib.Core.Path.{◌≡◌, refl, sym, ap, subst}
-use mathlib.Core.Bool.{Bool, true, false, cond, ◌||◌}
-use mathlib.Core.List.{[], ◌∷◌}
-use Prim.Native.Nat.{ℕ, ◌+◌, ◌-◌, ◌*◌, ◌<◌, ◌≤◌}
-use native.Mathlib.Omega.{arith}
-use lib.Dec.{T, eqb, ltb, eqb→eq}
-use lib.ListN.{length, get_or}
-use lib.IntN.{ℤ, pos, negsuc, ◌+ℤ◌}
+use Rattle.std.proofs.Common.{◌≡◌, refl, sym, ap, subst, Bool, true, false, cond, ◌||◌, Option, Some, None, ◌++◌, [], ◌∷◌, ℕ, ◌+◌, ◌-◌, ◌*◌}
+use Rattle.std.proofs.Common.{◌<◌, ◌≤◌, arith, T, eqb, ltb, eqb→eq, length, get_or, ℤ, pos, negsuc, ◌+ℤ◌, ltb-true, ltb-false, lt-ltb}
+use Rattle.std.proofs.Common.{le-ltb}
 use lib.Signed.{lt_z}
-use borrow.Author.Tests.{ltb-false, lt-ltb, le-ltb}
 use Rattle.laws.specs.Test.{among, either_elim}
 use Rattle.laws.specs.Integers.{minus, counted}
 use Rattle.laws.specs.Claim.{Claim, ◌is◌, ◌under◌, ◌and◌, up_to, each, given, Holds, sound}
@@ -17,7 +11,9 @@ use Rattle.laws.proofs.Reflect.{or_false}
 use Rattle.chain.specs.Plan.{widths, carriers_of}
 use Rattle.subcarriers.specs.declared.layout.Use.{Use}
 use Rattle.subcarriers.specs.declared.layout.Use.TheVariants.{Silent, Pilot, Data}
-use Rattle.subcarriers.specs.Subcarriers.{used_subcarriers, pilot_subcarriers, data_subcarriers, place_in, use_of, places_of, subcarrier_at, pilots_of, outside, Inside, subcarrier_from, UseRight, PlaceUsed, CarrierPlace}
+use Rattle.subcarriers.specs.Subcarriers.{used_subcarriers, pilot_subcarriers, data_subcarriers, rising, place_in, place_found, use_of}
+use Rattle.subcarriers.specs.Subcarriers.{places_of, subcarrier_at, pilots_of, outside, Inside, subcarrier_from, UseRight, PlaceUsed}
+use Rattle.subcarriers.specs.Subcarriers.{CarrierPlace}
 
 -- a test as a number
 abbrev pub one : Bool → ℕ
@@ -168,47 +164,113 @@ pub unused_silent : (width : ℕ) → T (among widths width) → (z : ℤ) → I
 unused_silent width h =
     at_index (λ (z : ℤ). places_of width ≤ place_in (used_subcarriers width) z → use_of width z ≡ Silent) (silent width h) width h
 
--- x is the place of index k where low .. gap - 1 and above .. top - 1 are the used indexes
-pub record Ranged (low gap above top skipped none k x : ℕ) : Type 0 where
-  pub below : k < low → none ≡ x
-  pub lower : low ≤ k → k < gap → k - low ≡ x
-  pub between : gap ≤ k → k < above → none ≡ x
-  pub upper : above ≤ k → k < top → k - skipped ≡ x
-  pub beyond : top ≤ k → none ≡ x
+-- the numbers of places, pilots and data carriers are those of the lists
+abbrev pub sizes_claim : Claim
+sizes_claim = each widths λ w.
+    length (used_subcarriers w) is places_of w and length (pilot_subcarriers w) is pilots_of w and length (data_subcarriers w) is carriers_of w
 
-abbrev ranged_claim : (low gap above top skipped none k x : ℕ) → Claim
-ranged_claim low gap above top skipped none k x =
-    given (one (ltb k low)) 1 (none is x)
-    and given (one (ltb k low)) 0 (given (one (ltb k gap)) 1 (k - low is x))
-    and given (one (ltb k gap)) 0 (given (one (ltb k above)) 1 (none is x))
-    and given (one (ltb k above)) 0 (given (one (ltb k top)) 1 (k - skipped is x))
-    and given (one (ltb k top)) 0 (none is x)
+pub sizes_are : Holds sizes_claim
+unfolding used_subcarriers pilot_subcarriers data_subcarriers
+sizes_are = sound sizes_claim tt
 
-ranged : (low gap above top skipped none k x : ℕ) → Holds (ranged_claim low gap above top skipped none k x) → Ranged low gap above top skipped none k x
-ranged low gap above top skipped none k x h =
+-- a place that is found is below the length of the list, and where none is found there is none
+found_at : (n m f : ℕ) → cond (ltb n m) (Some n) None ≡ Some f → (f ≡ n) × (n < m)
+found_at n m f e = go (ltb n m) refl e
+  where
+    go : (b : Bool) → ltb n m ≡ b → cond b (Some n) None ≡ Some f → (f ≡ n) × (n < m)
+    go true t e = (cc, ltb-true n m t)
+    go false t e = absurd (cc)
+
+found_none : (n m : ℕ) → cond (ltb n m) (Some n) None ≡ None → m ≤ n
+found_none n m e = go (ltb n m) refl e
+  where
+    go : (b : Bool) → ltb n m ≡ b → cond b (Some n) None ≡ None → m ≤ n
+    go true t e = absurd (cc)
+    go false t e = ltb-false n m t
+
+-- the use of a subcarrier, by its place
+module _ (width : ℕ) (h : T (among widths width)) (z : ℤ) (inside : Inside width z) where
+  found : (f : ℕ) → place_found (used_subcarriers width) z ≡ Some f → (f ≡ place_in (used_subcarriers width) z) × (f < places_of width)
+  found f e = let k = found_at _ _ f e in (k.0, rw k.0 (rw (sizes_are width h).0 at k.1))
+
+  pub found_below : (f : ℕ) → place_found (used_subcarriers width) z ≡ Some f → f < places_of width
+  found_below f e = (found f e).1
+
+  pub found_use : (f : ℕ) → place_found (used_subcarriers width) z ≡ Some f → use_of width (subcarrier_at width f) ≡ use_of width z
+  found_use f e = use_at_place width h z inside f (found f e).0 (found f e).1
+
+  pub lost_silent : place_found (used_subcarriers width) z ≡ None → Silent ≡ use_of width z
+  lost_silent e = sym (unused_silent width h z inside (rw (sizes_are width h).0 at (found_none _ _ e)))
+
+-- the used indexes of a width: low up to gap, and above up to top, which have so many skipped below them
+abbrev pub Bounds : Type 0
+Bounds = ℕ × ℕ × ℕ × ℕ × ℕ
+
+abbrev pub bounds_of : (width : ℕ) → Bounds
+bounds_of width = cond (eqb width 40) (6, 63, 66, 123, 9) (36, 64, 65, 93, 37)
+
+-- x is the place of index k among the used ones
+pub record Ranged (b : Bounds) (k : ℕ) (x : Option ℕ) : Type 0 where
+  pub below : k < b.0 → None ≡ x
+  pub lower : b.0 ≤ k → k < b.1 → Some (k - b.0) ≡ x
+  pub between : b.1 ≤ k → k < b.2 → None ≡ x
+  pub upper : b.2 ≤ k → k < b.3 → Some (k - b.4) ≡ x
+  pub beyond : b.3 ≤ k → None ≡ x
+
+-- a number or none, as a number
+abbrev pub found_code : Option ℕ → ℕ
+found_code None = 0
+found_code (Some f) = 1 + f
+
+pub found_same : (a b : Option ℕ) → found_code a ≡ found_code b → a ≡ b
+found_same None None e = refl
+found_same None (Some f) e = absurd (omega (arith, e))
+found_same (Some f) None e = absurd (omega (arith, e))
+found_same (Some f) (Some g) e = ap Some (omega (arith, e))
+
+abbrev found_is : Option ℕ → Option ℕ → Claim
+found_is a b = found_code a is found_code b
+
+abbrev ranged_claim : (b : Bounds) (k : ℕ) (x : Option ℕ) → Claim
+ranged_claim b k x =
+    given (one (ltb k b.0)) 1 (found_is None x)
+    and given (one (ltb k b.0)) 0 (given (one (ltb k b.1)) 1 (found_is (Some (k - b.0)) x))
+    and given (one (ltb k b.1)) 0 (given (one (ltb k b.2)) 1 (found_is None x))
+    and given (one (ltb k b.2)) 0 (given (one (ltb k b.3)) 1 (found_is (Some (k - b.4)) x))
+    and given (one (ltb k b.3)) 0 (found_is None x)
+
+ranged : (b : Bounds) (k : ℕ) (x : Option ℕ) → Holds (ranged_claim b k x) → Ranged b k x
+ranged b k x h =
     record {
-      below = λ l. h.0 (ap one (lt-ltb k low l));
-      lower = λ g l. h.1.0 (ap one (le-ltb k low g)) (ap one (lt-ltb k gap l));
-      between = λ g l. h.1.1.0 (ap one (le-ltb k gap g)) (ap one (lt-ltb k above l));
-      upper = λ g l. h.1.1.1.0 (ap one (le-ltb k above g)) (ap one (lt-ltb k top l));
-      beyond = λ g. h.1.1.1.1 (ap one (le-ltb k top g));
+      below = λ l. found_same _ _ (h.0 (ap one (lt-ltb k b.0 l)));
+      lower = λ g l. found_same _ _ (h.1.0 (ap one (le-ltb k b.0 g)) (ap one (lt-ltb k b.1 l)));
+      between = λ g l. found_same _ _ (h.1.1.0 (ap one (le-ltb k b.1 g)) (ap one (lt-ltb k b.2 l)));
+      upper = λ g l. found_same _ _ (h.1.1.1.0 (ap one (le-ltb k b.2 g)) (ap one (lt-ltb k b.3 l)));
+      beyond = λ g. found_same _ _ (h.1.1.1.1 (ap one (le-ltb k b.3 g)));
     }
 
-abbrev form_claim : Claim
-form_claim = up_to 128 λ k.
-    ranged_claim 36 64 65 93 37 56 k (place_in (used_subcarriers 20) (subcarrier_from k))
-    and ranged_claim 6 63 66 123 9 114 k (place_in (used_subcarriers 40) (subcarrier_from k))
+abbrev form_claim : (width : ℕ) → Claim
+form_claim width = up_to 128 λ k. ranged_claim (bounds_of width) k (place_found (used_subcarriers width) (subcarrier_from k))
 
-forms : Holds form_claim
+wide_form : Holds (form_claim 40)
 unfolding used_subcarriers
-forms = sound form_claim tt
+wide_form = sound (form_claim 40) tt
 
--- the place of a subcarrier by its index, at 20 MHz and at 40
-pub form_20 : (k : ℕ) → k < 128 → Ranged 36 64 65 93 37 56 k (place_in (used_subcarriers 20) (subcarrier_from k))
-form_20 k l = ranged 36 64 65 93 37 56 k (place_in (used_subcarriers 20) (subcarrier_from k)) (forms k l).0
+narrow_form : Holds (form_claim 20)
+unfolding used_subcarriers
+narrow_form = sound (form_claim 20) tt
 
-pub form_40 : (k : ℕ) → k < 128 → Ranged 6 63 66 123 9 114 k (place_in (used_subcarriers 40) (subcarrier_from k))
-form_40 k l = ranged 6 63 66 123 9 114 k (place_in (used_subcarriers 40) (subcarrier_from k)) (forms k l).1
+-- the place of a subcarrier by its index
+pub form : (width k : ℕ) (b : Bounds) → b ≡ bounds_of width → k < 128
+    → Ranged b k (place_found (used_subcarriers width) (subcarrier_from k))
+unfolding used_subcarriers
+form width k b e l = rw e (ranged _ k _ (go (eqb width 40)))
+  where
+    go : (wide : Bool) → Holds (ranged_claim (cond wide (6, 63, 66, 123, 9) (36, 64, 65, 93, 37)) k
+        (place_found (cond wide (rising (minus 58) 57 ++ rising (pos 2) 57) (rising (minus 28) 28 ++ rising (pos 1) 28))
+        (subcarrier_from k)))
+    go true = wide_form k l
+    go false = narrow_form k l
 
 -- at both widths and each place: its subcarrier is one of the channel, and used
 abbrev place_claim : Claim
@@ -249,15 +311,6 @@ carrier_place width h c l =
       inside = (carriers width h c l).0;
       carries = code_same (use_of width (subcarrier_at width (carrier_at width c))) (Data c) (carriers width h c l).1;
     }
-
--- the numbers of places, pilots and data carriers are those of the lists
-abbrev pub sizes_claim : Claim
-sizes_claim = each widths λ w.
-    length (used_subcarriers w) is places_of w and length (pilot_subcarriers w) is pilots_of w and length (data_subcarriers w) is carriers_of w
-
-pub sizes_are : Holds sizes_claim
-unfolding used_subcarriers pilot_subcarriers data_subcarriers
-sizes_are = sound sizes_claim tt
 
 -- a stream has places, and at most 114
 pub places_some : (w : ℕ) → 0 < places_of w

@@ -1,5 +1,6 @@
 -- Which subcarriers carry pilots, data or nothing (document 01 step 7; EWC 4.6, 4.7), by their own numbers.
-use Rattle.std.specs.Prelude.{◌≡◌, Bool, false, cond, ◌||◌, List, [], ◌∷◌, ◌++◌, ℕ, zero, suc, ◌-◌, ◌<◌, eqb, ltb, length, get_or, ℤ, pos, ◌+ℤ◌}
+use Rattle.std.specs.Prelude.{◌≡◌, Bool, false, cond, ◌||◌, Option, Some, None, List, [], ◌∷◌, ◌++◌, ℕ, zero, suc, ◌-◌, ◌<◌, eqb, ltb}
+use Rattle.std.specs.Prelude.{length, get_or, ℤ, pos, ◌+ℤ◌}
 use Rattle.std.specs.Int.Signed.{lt_z}
 use Rattle.laws.specs.Integers.{minus, alike}
 use Rattle.chain.specs.Plan.{carriers_of}
@@ -29,6 +30,10 @@ place_in (y ∷ ys) z = cond (alike y z) 0 (suc (place_in ys z))
 
 abbrev pub stands_in : List ℤ → ℤ → Bool
 stands_in zs z = ltb (place_in zs z) (length zs)
+
+-- the place of a subcarrier in a list that has it
+abbrev pub place_found : List ℤ → ℤ → Option ℕ
+place_found zs z = cond (stands_in zs z) (Some (place_in zs z)) None
 
 -- the subcarriers of a list that another has not
 abbrev pub without : List ℤ → List ℤ → List ℤ

@@ -2,8 +2,9 @@
 ghost use Rattle.std.specs.Prelude.{◌≡◌, ◌*◌, ◌<◌, ◌≤◌, T, pos, ◌-ℤ◌};
 ghost use Rattle.laws.specs.Test.{among};
 ghost use Rattle.chain.specs.Plan.{widths};
-ghost use Rattle.subcarriers.specs.Subcarriers.{used_subcarriers, place_in, use_of, places_of, subcarrier_at, subcarrier_from, outside, Inside};
-ghost use Rattle.subcarriers.specs.Runs.{half_runs, run_of, run_end, RunRight};
+ghost use Rattle.subcarriers.specs.Subcarriers.{used_subcarriers, place_found, use_of, places_of, subcarrier_at, subcarrier_from, outside};
+ghost use Rattle.subcarriers.specs.Subcarriers.{Inside};
+ghost use Rattle.subcarriers.specs.Runs.{half_runs, run_of};
 
 // Nothing, the pilot at a place, or the data carrier of a number, both counted from 0 with the subcarriers rising.
 #[derive(Clone, Copy)]
@@ -19,8 +20,7 @@ pub struct Run {
     pub place: usize,
     pub carrier: usize,
     pub count: usize,
-    pub piloted: bool,
-    pub pilot: usize,
+    pub pilot: Option<usize>,
     pub turned: bool,
 }
 
@@ -28,25 +28,30 @@ pub struct Run {
 pub fn is_outside(width: usize, subcarrier: i32) -> bool
     ensures { result ≡ outside width subcarrier }
 {
-    let wide = width == 40;
-    if wide {
-        return (subcarrier < -64) | (subcarrier > 63);
-    }
-    (subcarrier < -32) | (subcarrier > 31)
+    let (first, last) = if width == 40 { (-64, 63) } else { (-32, 31) };
+    (subcarrier < first) | (subcarrier > last)
 }
 
-// The runs below 0 and then those above: the first place, the first data carrier and the number of carriers of each.
-const PLACES_20: [u8; 6] = [0, 8, 22, 28, 35, 49];
+// The runs below 0 and then those above: the first place, the first data carrier, the number of carriers, the pilot after them.
+const RUNS_20: [(usize, usize, usize, Option<usize>); 6] = [
+    (0, 0, 7, Some(0)),
+    (8, 7, 13, Some(1)),
+    (22, 20, 6, None),
+    (28, 26, 6, Some(2)),
+    (35, 32, 13, Some(3)),
+    (49, 45, 7, None),
+];
 
-const CARRIERS_20: [u8; 6] = [0, 7, 20, 26, 32, 45];
-
-const COUNTS_20: [u8; 6] = [7, 13, 6, 6, 13, 7];
-
-const PLACES_40: [u8; 8] = [0, 6, 34, 48, 57, 67, 81, 109];
-
-const CARRIERS_40: [u8; 8] = [0, 5, 32, 45, 54, 63, 76, 103];
-
-const COUNTS_40: [u8; 8] = [5, 27, 13, 9, 9, 13, 27, 5];
+const RUNS_40: [(usize, usize, usize, Option<usize>); 8] = [
+    (0, 0, 5, Some(0)),
+    (6, 5, 27, Some(1)),
+    (34, 32, 13, Some(2)),
+    (48, 45, 9, None),
+    (57, 54, 9, Some(3)),
+    (67, 63, 13, Some(4)),
+    (81, 76, 27, Some(5)),
+    (109, 103, 5, None),
+];
 
 // An entry of a table as a number of places.
 pub fn entry_index(entry: u8) -> usize
@@ -55,41 +60,20 @@ pub fn entry_index(entry: u8) -> usize
     entry as usize
 }
 
-fn run_20(r: usize) -> Run
-    requires { r < 6 }
-    ensures { result ≡ run_of 20 r }
-{
-    Run {
-        place: entry_index(PLACES_20[r]),
-        carrier: entry_index(CARRIERS_20[r]),
-        count: entry_index(COUNTS_20[r]),
-        piloted: r % 3 != 2,
-        pilot: r - r / 3,
-        turned: false,
-    }
-}
-
-fn run_40(r: usize) -> Run
-    requires { r < 8 }
-    ensures { result ≡ run_of 40 r }
-{
-    Run {
-        place: entry_index(PLACES_40[r]),
-        carrier: entry_index(CARRIERS_40[r]),
-        count: entry_index(COUNTS_40[r]),
-        piloted: r % 4 != 3,
-        pilot: r - r / 4,
-        turned: r >= 4,
-    }
-}
-
 // Run r of a stream's places.
 pub fn run_of(width: usize, r: usize) -> Run
-    requires t { T (among widths width) }
-    requires r_bound { r < 2 * half_runs width }
+    requires { r < 2 * half_runs width }
     ensures { result ≡ run_of width r }
 {
-    if width == 40 { run_40(r) } else { run_20(r) }
+    let wide = width == 40;
+    let (place, carrier, count, pilot) = if wide { RUNS_40[r] } else { RUNS_20[r] };
+    Run {
+        place,
+        carrier,
+        count,
+        pilot,
+        turned: wide & (r >= 4),
+    }
 }
 
 // A subcarrier's number as an index, from -64 on: the one conversion.
@@ -100,87 +84,38 @@ pub fn index(subcarrier: i32) -> usize
     (subcarrier + 64) as usize
 }
 
-// The place of a subcarrier among the used ones, by its index; 56 or 114 where it is unused.
-fn place_20(k: usize) -> usize
-    ensures { k < 128 → result ≡ place_in (used_subcarriers 20) (subcarrier_from k) }
+// The place of a subcarrier among the used ones, by its index. Used are those from low up to gap, and from above up to top,
+// which have so many skipped below them.
+fn place_of(width: usize, k: usize) -> Option<usize>
+    requires { k < 128 }
+    ensures { result ≡ place_found (used_subcarriers width) (subcarrier_from k) }
 {
-    if k < 36 {
-        return 56;
-    }
-    if k < 64 {
-        return k - 36;
-    }
-    if k < 65 {
-        return 56;
-    }
-    if k < 93 {
-        return k - 37;
-    }
-    56
-}
-
-fn place_40(k: usize) -> usize
-    ensures { k < 128 → result ≡ place_in (used_subcarriers 40) (subcarrier_from k) }
-{
-    if k < 6 {
-        return 114;
-    }
-    if k < 63 {
-        return k - 6;
-    }
-    if k < 66 {
-        return 114;
-    }
-    if k < 123 {
-        return k - 9;
-    }
-    114
-}
-
-fn place_of(width: usize, k: usize) -> usize
-    requires t { T (among widths width) }
-    requires k_bound { k < 128 }
-    ensures { result ≡ place_in (used_subcarriers width) (subcarrier_from k) }
-{
-    if width == 40 {
-        place_40(k)
+    let (low, gap, above, top, skipped) = if width == 40 {
+        (6, 63, 66, 123, 9)
     } else {
-        place_20(k)
+        (36, 64, 65, 93, 37)
+    };
+    if low <= k && k < gap {
+        return Some(k - low);
     }
+    if above <= k && k < top {
+        return Some(k - skipped);
+    }
+    None
 }
 
 // Places of a stream's points.
 pub fn places_of(width: usize) -> usize
     ensures { result ≡ places_of width }
 {
-    let wide = width == 40;
-    if wide { 114 } else { 56 }
+    if width == 40 { 114 } else { 56 }
 }
 
 // Runs of a stream's places.
 pub fn runs_of(width: usize) -> usize
     ensures { result ≡ 2 * half_runs width }
 {
-    let wide = width == 40;
-    if wide { 8 } else { 6 }
-}
-
-// The run that a place is in, its pilot counted.
-fn run_at(width: usize, f: usize) -> Run
-    requires t { T (among widths width) }
-    requires f_bound { f < places_of width }
-    ensures { RunRight width result × ((result.place ≤ f) × (f < run_end result)) }
-{
-    let runs = runs_of(width);
-    let mut run = run_of(width, 0);
-    for r in 1..runs {
-        let next = run_of(width, r);
-        if f < next.place {
-            return run;
-        }
-        run = next;
-    }
-    run
+    if width == 40 { 8 } else { 6 }
 }
 
 // What the subcarrier at place f is used for.
@@ -189,12 +124,19 @@ fn use_at(width: usize, f: usize) -> Use
     requires f_bound { f < places_of width }
     ensures { result ≡ use_of width (subcarrier_at width f) }
 {
-    let run = run_at(width, f);
-    let k = f - run.place;
-    if k < run.count {
-        return Use::Data(run.carrier + k);
+    for r in 0..runs_of(width) {
+        let run = run_of(width, r);
+        let end = run.place + run.count;
+        if f < end {
+            return Use::Data(run.carrier + (f - run.place));
+        }
+        if let Some(pilot) = run.pilot
+            && f == end
+        {
+            return Use::Pilot(pilot);
+        }
     }
-    Use::Pilot(run.pilot)
+    unreachable!()
 }
 
 // A place less a number of places, below 0 where it is more.
@@ -205,22 +147,18 @@ fn places_from(f: usize, k: usize) -> i32
     f as i32 - k as i32
 }
 
-// The subcarrier at place f, by its own number.
+// The subcarrier at place f, by its own number: as many below the place for all places below 0, and for all above it.
 pub fn subcarrier_of(width: usize, f: usize) -> i32
     requires t { T (among widths width) }
     requires f_bound { f < places_of width }
     ensures { result ≡ subcarrier_at width f }
 {
-    if width == 40 {
-        if f < 57 {
-            return places_from(f, 58);
-        }
-        return places_from(f, 55);
-    }
-    if f < 28 {
-        return places_from(f, 28);
-    }
-    places_from(f, 27)
+    let (half, below, above) = if width == 40 {
+        (57, 58, 55)
+    } else {
+        (28, 28, 27)
+    };
+    places_from(f, if f < half { below } else { above })
 }
 
 // What a subcarrier of the channel is used for.
@@ -229,9 +167,8 @@ pub fn use_of(width: usize, subcarrier: i32) -> Use
     requires inside { Inside width subcarrier }
     ensures { result ≡ use_of width subcarrier }
 {
-    let f = place_of(width, index(subcarrier));
-    if f < places_of(width) {
-        return use_at(width, f);
+    match place_of(width, index(subcarrier)) {
+        Some(f) => use_at(width, f),
+        None => Use::Silent,
     }
-    Use::Silent
 }

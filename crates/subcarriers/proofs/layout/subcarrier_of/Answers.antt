@@ -1,26 +1,23 @@
 -- `subcarrier_of` goes by width and half of the channel.
-use mathlib.Core.Path.{◌≡◌, ◌∙◌, subst}
-use Prim.Native.Nat.{ℕ, ◌<◌}
-use borrow.Author.Rules.{rules}
-use native.Mathlib.Omega.{arith}
-use Rattle.chain.proofs.Counts.{width_other}
-use Rattle.subcarriers.specs.Subcarriers.{places_of}
-use Rattle.subcarriers.proofs.SubcarrierLaws.{places_few}
-use Rattle.subcarriers.proofs.NumberLaws.{low_40, high_40, low_20, high_20}
+use Rattle.std.proofs.Common.{rules, ◌≡◌, ◌∙◌, pos, ◌-ℤ◌, ne_eqb}
+use Rattle.subcarriers.specs.Subcarriers.{subcarrier_at}
+use Rattle.subcarriers.proofs.NumberLaws.{shifts_of, lower_number, upper_number}
+use Rattle.subcarriers.proofs.layout.subcarrier_of.Goals.{then-width-eq40, else-width-eq40, then-f-half, else-f-half}
 use Rattle.subcarriers.proofs.layout.subcarrier_of.Goals as goal
 
-pub returns-then-f-lt57 : goal.returns-then-f-lt57
-returns-then-f-lt57 c = search rules ∙ c.places_from.ensures ∙ low_40 _ _ c.if-width-eq40.true c.if-f-lt57.true
-
-pub returns-then-width-eq40 : goal.returns-then-width-eq40
-returns-then-width-eq40 c = search rules ∙ c.places_from-then-width-eq40.ensures ∙ high_40 _ _ c.if-width-eq40.true c.if-f-lt57.false (omega (arith, c.requires.f_bound, places_few c.args.width))
-
-pub returns-then-f-lt28 : goal.returns-then-f-lt28
-returns-then-f-lt28 c =
-    let narrow : c.args.width ≡ 20 = width_other c.args.width c.requires.t c.if-width-eq40.false in
-    search rules ∙ c.places_from-then-f-lt28.ensures ∙ low_20 _ _ (narrow) c.if-f-lt28.true
-
 pub returns : goal.returns
-returns c =
-    let narrow : c.args.width ≡ 20 = width_other c.args.width c.requires.t c.if-width-eq40.false in
-    search rules ∙ c.places_from-2.ensures ∙ high_20 _ _ (narrow) c.if-f-lt28.false (subst (λ (w : ℕ). c.args.f < places_of w) (narrow) c.requires.f_bound)
+returns c = search rules ∙ c.places_from.ensures ∙ number
+  where
+    shifts : c.if-width-eq40.half ≡ shifts_of c.args.width
+    shifts = elim c.if-width-eq40.branch [
+      | then-width-eq40 w ↦ rw (w.half-is, w.if-width-eq40.true)
+      | else-width-eq40 w ↦ let n = ne_eqb c.args.width 40 w.if-width-eq40.false in rw (w.half-is, n)
+    ]
+
+    number : pos c.args.f -ℤ pos c.if-f-half.places_from ≡ subcarrier_at c.args.width c.args.f
+    number = elim c.if-f-half.branch [
+      | then-f-half w ↦ rw w.places_from-is
+          (lower_number c.args.width c.args.f c.if-width-eq40.half c.requires.t c.requires.f_bound shifts w.if-f-half.true)
+      | else-f-half w ↦ rw w.places_from-is
+          (upper_number c.args.width c.args.f c.if-width-eq40.half c.requires.t c.requires.f_bound shifts w.if-f-half.false)
+    ]

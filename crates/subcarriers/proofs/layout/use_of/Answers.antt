@@ -1,18 +1,27 @@
 -- `use_of` goes by whether the subcarrier has a place.
-use mathlib.Core.Path.{◌≡◌, sym, ap, ◌∙◌}
+use Rattle.std.proofs.Common.{◌≡◌, ◌∙◌, sym, ap}
 use mir.Facts.{to_z-of_z}
-use Rattle.subcarriers.specs.Subcarriers.{used_subcarriers, place_in}
-use Rattle.subcarriers.proofs.SubcarrierLaws.{use_at_place, unused_silent}
+use Rattle.subcarriers.specs.Subcarriers.{used_subcarriers, place_found}
+use Rattle.subcarriers.proofs.SubcarrierLaws.{found_below, found_use, lost_silent}
+use Rattle.subcarriers.proofs.layout.use_of.Goals.{After-place_of}
 use Rattle.subcarriers.proofs.layout.use_of.Goals as goal
 
-pub returns-then-f-places_of : goal.returns-then-f-places_of
-returns-then-f-places_of c =
-    let found : c.place_of-f.result ≡ place_in (used_subcarriers c.args.width) c.args.subcarrier = c.place_of-f.ensures ∙ ap (place_in (used_subcarriers c.args.width)) (c.index.ensures.0 ∙ to_z-of_z c.ranges.subcarrier) in
-    c.use_at.ensures
-    ∙ use_at_place c.args.width c.requires.t c.args.subcarrier c.requires.inside c.place_of-f.result (found)
-    (rw c.places_of.ensures at c.if-f-places_of.true)
+-- the place is that of the subcarrier itself
+found : (c : After-place_of) → place_found (used_subcarriers c.args.width) c.args.subcarrier ≡ c.place_of.result
+found c = sym (c.place_of.ensures ∙ ap (place_found (used_subcarriers c.args.width)) (c.index.ensures.0 ∙ to_z-of_z c.ranges.subcarrier))
 
-pub returns : goal.returns
-returns c =
-    let found : c.place_of-f.result ≡ place_in (used_subcarriers c.args.width) c.args.subcarrier = c.place_of-f.ensures ∙ ap (place_in (used_subcarriers c.args.width)) (c.index.ensures.0 ∙ to_z-of_z c.ranges.subcarrier) in
-    sym (unused_silent c.args.width c.requires.t c.args.subcarrier c.requires.inside (rw (c.places_of.ensures, found) at c.if-f-places_of.false))
+pub use_at-requires-clause-f_bound : goal.use_at-requires-clause-f_bound
+use_at-requires-clause-f_bound c =
+    found_below c.args.width c.requires.t c.args.subcarrier c.requires.inside c.in-Some.f
+    (found (goal.at.use_at-requires-clause-f_bound c).After-place_of ∙ c.in-Some.is)
+
+pub returns-in-Some : goal.returns-in-Some
+returns-in-Some c =
+    c.use_at.ensures
+    ∙ found_use c.args.width c.requires.t c.args.subcarrier c.requires.inside c.in-Some.f
+    (found (goal.at.returns-in-Some c).After-place_of ∙ c.in-Some.is)
+
+pub returns-in-None : goal.returns-in-None
+returns-in-None c =
+    lost_silent c.args.width c.requires.t c.args.subcarrier c.requires.inside
+    (found (goal.at.returns-in-None c).After-place_of ∙ c.in-None.is)
