@@ -1,14 +1,19 @@
 -- `label_keys` is the table of the definition, by the number of bits.
-use mathlib.Core.Path.{◌∙◌, refl}
-use mathlib.Core.Bool.{true, false}
-use Rattle.demapper.proofs.LabelLaws.{keys_by}
+use Rattle.std.proofs.Common.{arith}
+use Rattle.std.proofs.lemmas.Grind.{common_steps}
+use Rattle.std.proofs.lemmas.Bool.Decides.{nat_tests}
+
+use Rattle.demapper.specs.Asked.{label_keys}
 use Rattle.demapper.proofs.level.label_keys.Goals as goal
 
-pub returns-then-three_bits : goal.returns-then-three_bits
-returns-then-three_bits c = c.three_bit_keys.ensures ∙ keys_by c.args.s true _ c.if-three_bits.true-raw refl
+pub returns-in-3 : goal.returns-in-3
+unfolding label_keys
+returns-in-3 c = rw c.in-3.is
 
-pub returns-then-two_bits : goal.returns-then-two_bits
-returns-then-two_bits c = c.two_bit_keys.ensures ∙ keys_by c.args.s false true c.if-three_bits.false-raw c.if-two_bits.true-raw
+pub returns-in-2 : goal.returns-in-2
+unfolding label_keys
+returns-in-2 c = rw c.in-2.is
 
-pub returns : goal.returns
-returns c = c.one_bit_keys.ensures ∙ keys_by c.args.s false false c.if-three_bits.false-raw c.if-two_bits.false-raw
+pub returns-in_default : goal.returns-in_default
+unfolding label_keys
+returns-in_default c = grind (arith, nat_tests, common_steps)

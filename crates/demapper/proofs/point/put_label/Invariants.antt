@@ -1,5 +1,5 @@
 -- `put_label` stores one bit of the label a turn.
-use Prim.Native.Nat.{◌-◌, ◌≤◌}
+use Prim.Native.Nat.{◌≤◌}
 use Rattle.laws.specs.Filled.{Filled}
 use Rattle.demapper.specs.Demapped.{bit_of_label}
 use Rattle.demapper.proofs.point.put_label.Given as goal
