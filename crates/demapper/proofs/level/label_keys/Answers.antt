@@ -2,7 +2,6 @@
 use Rattle.std.proofs.Common.{arith}
 use Rattle.std.proofs.lemmas.Grind.{common_steps}
 use Rattle.std.proofs.lemmas.Bool.Decides.{nat_tests}
-
 use Rattle.demapper.specs.Asked.{label_keys}
 use Rattle.demapper.proofs.level.label_keys.Goals as goal
 
