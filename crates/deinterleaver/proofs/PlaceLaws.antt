@@ -104,9 +104,6 @@ module _ (p : Plan) (f : Fits p) where
     pub stream_room : i * p.block + p.block ≤ p.streams * p.block
     stream_room = let more : (i + 1) * p.block ≤ p.streams * p.block = mul-le-mul_right p.block (omega arith) in omega (arith, more)
 
-    pub stream_near : i * p.block + p.block ≤ 2592
-    stream_near = omega (arith, stream_room, f.coded_is, f.coded_most)
-
     -- its coded bits stand a few places on
     pub shift_few : i * axis_bits p.bits ≤ 12
     shift_few = mul-le-mul {n₂ = 4} {m₂ = 3} (omega (arith, stream_below_four p f i hi)) (small p f).axis_most

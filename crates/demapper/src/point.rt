@@ -1,5 +1,5 @@
 // A point's two labels from its two floats, its label bits, and the test of a pilot.
-ghost use Rattle.std.specs.Prelude.{◌≡◌, cond, ◌+◌, ◌≤◌, eqb, length};
+ghost use Rattle.std.specs.Prelude.{◌≡◌, cond, ◌+◌, ◌≤◌, length};
 ghost use Rattle.laws.specs.Filled.{Filled};
 ghost use Rattle.demapper.specs.Demapped.{bit_of_label, second_label};
 ghost use Rattle.demapper.specs.Asked.{PointTables, PointRead, DataHeard, pilot_heard};
