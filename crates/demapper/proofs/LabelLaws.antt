@@ -159,9 +159,6 @@ module _ (s : ℕ) (levels labels : List ℕ) (tables : Tables s levels labels) 
   pub levels_sized : length levels ≡ 32
   levels_sized = ap length tables.levels_are
 
-  pub labels_sized : length labels ≡ 32
-  labels_sized = ap length tables.labels_are ∙ keys_sized s tables.axis
-
   pub label_there : (x : Float) (b k : ℕ) → b ≡ to_bits binary32 x → k ≡ key_of b → k < 32 → b ≡ get_or levels k 0 → get_or labels k 0 ≡ level_label s x
   label_there x b k e g small there =
       let at : k ≡ key_of (to_bits binary32 x) = g ∙ ap key_of e in
@@ -190,9 +187,6 @@ module _ (s : ℕ) (labels : List ℕ) (known : T (among axis_counts s)) (e : la
 
   pub all_few : get_or labels 0 0 ≤ 8
   all_few = omega (arith, all_labels, few s known)
-
-  pub keys_some : 0 < length labels
-  keys_some = omega (arith, ap length e, keys_sized s known)
 
   -- the flipped label by the code's tests
   pub flip_low : (label : ℕ) → label < get_or labels 0 0 / 2 → label + get_or labels 0 0 / 2 ≡ flipped s label

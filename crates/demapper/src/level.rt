@@ -62,6 +62,7 @@ fn key_of(pattern: u32) -> usize
 }
 
 // The label of s bits whose level is x; 2^s where none is. No branch goes by the data.
+#[tactic(auto, using(crate::proofs::LabelLaws::keys_sized))]
 pub fn level_label(levels: &[u32], labels: &[u8], s: usize, x: f32) -> u8
     requires { Tables s levels.now labels.now }
     ensures { result ≡ level_label s x }
@@ -76,6 +77,7 @@ pub fn level_label(levels: &[u32], labels: &[u8], s: usize, x: f32) -> u8
 }
 
 // The label of s bits whose level is the negative of x; 2^s where none is.
+#[tactic(auto, using(crate::proofs::LabelLaws::flip_label))]
 pub fn negated_label(levels: &[u32], labels: &[u8], s: usize, x: f32) -> u8
     requires { Tables s levels.now labels.now }
     ensures { result ≡ negated_label s x }
@@ -84,6 +86,7 @@ pub fn negated_label(levels: &[u32], labels: &[u8], s: usize, x: f32) -> u8
 }
 
 // A label with its first bit flipped.
+#[tactic(auto, using(crate::proofs::LabelLaws::keys_sized))]
 fn flip(labels: &[u8], s: usize, label: u8) -> u8
     requires { T (among axis_counts s) × (labels.now ≡ label_keys s) }
     ensures { result ≡ flipped s label }

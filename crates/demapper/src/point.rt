@@ -48,6 +48,7 @@ impl Constellation<'_> {
     }
 
     // The labels of the point (x, y) as it was sent, the turn undone without changing a float.
+    #[tactic(auto, using(crate::proofs::LabelLaws::keys_sized))]
     fn point_labels(&self, turned: bool, x: f32, y: f32) -> PointLabels
         ensures { PointRead self.now.bits turned x y result }
     {

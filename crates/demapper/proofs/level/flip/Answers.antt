@@ -1,9 +1,6 @@
 -- `flip` tests a label as `flipped` does.
-use Rattle.demapper.proofs.LabelLaws.{keys_some, flip_low, flip_high, flip_neither}
+use Rattle.demapper.proofs.LabelLaws.{flip_low, flip_high, flip_neither}
 use Rattle.demapper.proofs.level.flip.Goals as goal
-
-pub bounds-labels-0 : goal.bounds-labels-0
-bounds-labels-0 c = keys_some c.args.s c.args.labels.now c.requires.0 c.requires.1
 
 pub returns-then-label-half : goal.returns-then-label-half
 returns-then-label-half c = flip_low c.args.s c.args.labels.now c.requires.0 c.requires.1 c.args.label c.if-label-half.true

@@ -1,13 +1,9 @@
 -- `point_labels` puts the two labels and the test together.
 use Rattle.std.proofs.Common.{arith, ◌≡◌, cond, eqb, get_or}
 use Rattle.std.proofs.lemmas.Bool.Decides.{nat_tests}
-use Rattle.demapper.proofs.LabelLaws.{labels_sized}
 use Rattle.demapper.proofs.PointLaws.{point_read}
 use Rattle.demapper.proofs.point.Constellation.point_labels.Goals as goal
 use Rattle.demapper.proofs.point.Constellation.point_labels.Goals.{then-self-eq1, else-self-eq1}
-
-pub bounds-self-0 : goal.bounds-self-0
-bounds-self-0 c = let p = c.args.self.now in omega (arith, labels_sized p.s p.levels.now p.labels.now p.tables.tables)
 
 pub returns : goal.returns
 returns c = let p = c.args.self.now in
