@@ -3,7 +3,7 @@ use mathlib.Core.Path.{◌≡◌, ◌∙◌, sym, ap, subst}
 use mathlib.Core.Bool.{Bool, true, cond}
 use mathlib.Core.List.{List}
 use mathlib.Core.Logic.{⊎_elim}
-use Prim.Native.Nat.{ℕ, ◌+◌, ◌-◌, ◌/◌, ◌^◌, ◌<◌, ◌≤◌}
+use Prim.Native.Nat.{ℕ, ◌+◌, ◌/◌, ◌^◌, ◌<◌, ◌≤◌}
 use native.Mathlib.Omega.{arith}
 use Rattle.std.proofs.lemmas.Bool.Decides.{nat_tests}
 use borrow.Author.Tests.{lt-ltb, le-ltb}
@@ -188,15 +188,5 @@ module _ (s : ℕ) (labels : List ℕ) (known : T (among axis_counts s)) (e : la
   pub all_few : get_or labels 0 0 ≤ 8
   all_few = omega (arith, all_labels, few s known)
 
-  -- the flipped label by the code's tests
-  pub flip_low : (label : ℕ) → label < get_or labels 0 0 / 2 → label + get_or labels 0 0 / 2 ≡ flipped s label
-  unfolding flipped
-  flip_low label l = let all = all_labels in grind (arith, nat_tests, all)
-
-  pub flip_high : (label : ℕ) → get_or labels 0 0 / 2 ≤ label → label < get_or labels 0 0 → label - get_or labels 0 0 / 2 ≡ flipped s label
-  unfolding flipped
-  flip_high label u l = let all = all_labels in grind (arith, nat_tests, all)
-
-  pub flip_neither : (label : ℕ) → get_or labels 0 0 ≤ label → get_or labels 0 0 ≡ flipped s label
-  unfolding flipped
-  flip_neither label u = let all = all_labels in grind (arith, nat_tests, all)
+-- what the goals of `flip` need
+pub ruleset flip_steps = (keys_sized, all_labels, nat_tests)

@@ -44,6 +44,7 @@ const THREE_BIT_KEYS: [u8; 32] = [
 ];
 
 // The labels of s bits, each at its level's key.
+#[tactic(auto, unfolding(crate::specs::Asked::label_keys))]
 pub fn label_keys(s: usize) -> [u8; 32]
     ensures { result ≡ label_keys s }
 {
@@ -86,7 +87,7 @@ pub fn negated_label(levels: &[u32], labels: &[u8], s: usize, x: f32) -> u8
 }
 
 // A label with its first bit flipped.
-#[tactic(auto, using(crate::proofs::LabelLaws::keys_sized))]
+#[tactic(auto, using(crate::proofs::LabelLaws::flip_steps), unfolding(crate::specs::Asked::flipped))]
 fn flip(labels: &[u8], s: usize, label: u8) -> u8
     requires { T (among axis_counts s) × (labels.now ≡ label_keys s) }
     ensures { result ≡ flipped s label }

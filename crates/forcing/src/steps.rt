@@ -4,6 +4,7 @@ ghost use Rattle.chain.specs.Decoder.{history_with, sum_after};
 ghost use Rattle.forcing.specs.Asked.{StepAsked, StepDone, Part, GroupAsked, EncoderAsked, EncoderDone};
 
 // The sum at place m of a pattern, after a history, with b for the input.
+#[tactic(auto, unfolding(chain::specs::Decoder::sum_after))]
 fn sum_after(m: usize, history: u8, b: u8) -> u8
     requires { (history < 64) × (b < 2) }
     ensures value { result ≡ sum_after m history b }
