@@ -54,7 +54,6 @@ apart e t j k n l h same =
 
 -- the first n encoders' inverse: their histories and inputs, all else as it was; a count that is 0 exactly when all their groups are right
 pub record Passed (hs : ℕ → ℕ) (c : ℕ → ℕ → ℕ) (e q groups n : ℕ) (histories : List ℕ) (wrong : ℕ) (inputs₀ inputs : List ℕ) : Type 0 where
-  pub within : n ≤ e
   pub two : length histories ≡ 2
   pub moved : (j : ℕ) → j < n → get_or histories j 0 ≡ forced_history (hs j) (c j) q ((q - 1) * groups)
   pub others : (j : ℕ) → n ≤ j → get_or histories j 0 ≡ hs j
@@ -70,7 +69,6 @@ module _ (hs : ℕ → ℕ) (c : ℕ → ℕ → ℕ) (e q groups : ℕ) where
   pub passed_none : (histories inputs : List ℕ) → length histories ≡ 2 → ((j : ℕ) → get_or histories j 0 ≡ hs j)
       → Passed hs c e q groups 0 histories 0 inputs inputs
   passed_none histories inputs two own = record {
-    within = omega arith;
     two = two;
     moved = λ j l. absurd (omega arith);
     others = λ j l. own j;
@@ -90,7 +88,6 @@ module _ (hs : ℕ → ℕ) (c : ℕ → ℕ → ℕ) (e q groups : ℕ) where
     passed_more h wrong' inputs' l few d =
         let here : n < length histories = omega (arith, p.two) in
         record {
-          within = omega arith;
           two = length-set histories n h ∙ p.two;
           moved = below_more _ n
               (λ j b. get_or-set_other histories n j h 0 (λ r. omega (arith, r)) ∙ p.moved j b)
@@ -111,9 +108,8 @@ module _ (hs : ℕ → ℕ) (c : ℕ → ℕ → ℕ) (e q groups : ℕ) where
         }
 
     -- all
-    pub passed_all : 1 ≤ e → e ≤ n → EncodersDone hs c e q groups histories (eqb wrong 0) inputs₀ inputs
+    pub passed_all : 1 ≤ e → n ≡ e → EncodersDone hs c e q groups histories (eqb wrong 0) inputs₀ inputs
     passed_all some all =
-        let same : n ≡ e = omega (arith, p.within) in
         record {
           two = p.two;
           moved = λ j l. p.moved j (omega arith);

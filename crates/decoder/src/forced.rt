@@ -19,6 +19,7 @@ pub struct Decoded {
 }
 
 // All encoders of a symbol, by their number j: coded bit y of encoder j stands at 1296·j + y.
+#[tactic(auto, using(chain::proofs::Counts::encoders_most))]
 fn decode_symbol(
     inputs: &mut [u8],
     coded: &[u8],

@@ -6,9 +6,9 @@ use mathlib.Core.Logic.{⊎_elim}
 use Prim.Native.Nat.{ℕ, ◌+◌, ◌-◌, ◌*◌, ◌/◌, ◌%◌, ◌<◌, ◌≤◌}
 use native.Mathlib.Nat.{mul-le-mul, mul-le-mul_right, not-suc-le-zero}
 use native.Mathlib.Omega.{arith}
-use lib.ListN.{length, get_or, set}
+use lib.ListN.{length, get_or, take, drop}
+use Rattle.std.proofs.lemmas.List.{get_or-take, get_or-drop, length-take-le, length-drop}
 use Rattle.laws.specs.Scattered.{Scattered}
-use Rattle.laws.proofs.Scattering.{scatter_more}
 use Rattle.laws.proofs.Search.{lt_or_le}
 use Rattle.chain.specs.declared.plan.Plan.{Plan}
 use Rattle.chain.specs.Plan.{Fits}
@@ -26,14 +26,37 @@ use Rattle.deinterleaver.specs.Deinterleaved.{label_bit_in, slot_of}
 use Rattle.deinterleaver.specs.Asked.{CodedRunAsked, Placed}
 use Rattle.deinterleaver.proofs.ScatterLaws.{scatter_end, scatter_as, scatter_join}
 
--- a turn of a run
-pub run_more : {coded₀ coded bits table : List ℕ} {shift from first count : ℕ} (r to : ℕ) → CodedRunAsked coded₀ bits table shift from first count
-    → r < count → to ≡ get_or table (first + r) 0
-    → Scattered 0 (λ k. get_or table (first + k) 0 + shift) (λ k. get_or bits (from + k) 0) r coded₀ coded
-    → Scattered 0 (λ k. get_or table (first + k) 0 + shift) (λ k. get_or bits (from + k) 0) (r + 1) coded₀ (set coded (to + shift) (get_or bits (from + r) 0))
-run_more {coded₀} {coded} {bits} {table} {shift} {from} {first} r to asked l same s =
-    rw same (scatter_more 0 (λ k. get_or table (first + k) 0 + shift) (λ k. get_or bits (from + k) 0) r coded₀ coded
-    (asked.reached r l) (λ k h. asked.apart k r h l) s)
+-- ys is the n numbers of xs from place a on
+pub record PartOf (xs : List ℕ) (a n : ℕ) (ys : List ℕ) : Type 0 where
+  pub sized : length ys ≡ n
+  pub read : (k : ℕ) → k < n → get_or ys k 0 ≡ get_or xs (a + k) 0
+
+pub part_of : (xs : List ℕ) (a n m : ℕ) → n ≡ m → a + m ≤ length xs → PartOf xs a m (take n (drop a xs))
+part_of xs a n m e h = record {
+  sized = length-take-le n (drop a xs) (omega (arith, length-drop a xs)) ∙ e;
+  read = λ k l. get_or-take n (drop a xs) k 0 (omega arith) ∙ get_or-drop a xs k 0;
+}
+
+pub start_of : (xs : List ℕ) (n : ℕ) → n ≤ length xs → PartOf xs 0 n (take n xs)
+start_of xs n h = record {
+  sized = length-take-le n xs h;
+  read = λ k l. get_or-take n xs k 0 l ∙ ap (λ (j : ℕ). get_or xs j 0) (omega arith);
+}
+
+-- and a part of that
+pub front_of : {xs ys zs : List ℕ} {a n : ℕ} (m : ℕ) → PartOf xs a n ys → m ≤ n → zs ≡ take m ys → PartOf xs a m zs
+front_of {ys = ys} m part h e = record {
+  sized = ap length e ∙ length-take-le m ys (omega (arith, part.sized));
+  read = λ k l. ap (λ (v : List ℕ). get_or v k 0) e ∙ get_or-take m ys k 0 l ∙ part.read k (omega arith);
+}
+
+pub back_of : {xs ys zs : List ℕ} {a b n r : ℕ} (m : ℕ) → PartOf xs a n ys → a + m ≡ b → m + r ≡ n → zs ≡ drop m ys → PartOf xs b r zs
+back_of {xs} {ys} m part place count e = record {
+  sized = ap length e ∙ length-drop m ys ∙ omega (arith, part.sized);
+  read = λ k l.
+      ap (λ (v : List ℕ). get_or v k 0) e ∙ get_or-drop m ys k 0 ∙ part.read (m + k) (omega arith)
+      ∙ ap (λ (j : ℕ). get_or xs j 0) (omega arith);
+}
 
 -- no two coded bits of one encoder or of two stand in the same place
 same_slot : (c e j y j' y' : ℕ) → e ≤ 2 → c ≤ 2592 → j < e → y < c / e → j' < e → y' < c / e → 1296 * j + y ≡ 1296 * j' + y' → (j ≡ j') × (y ≡ y')
@@ -50,6 +73,14 @@ pub record Turned (p : Plan) (i shift turn rest from : ℕ) : Type 0 where
   pub turn_is : turn ≡ shift_of p.width p.bits i
   pub whole : turn + rest ≡ p.block
   pub from_is : from ≡ i * p.block
+
+-- the two runs: the label bits before the round and behind it, and the table's places behind the rotation and before it
+pub record Parted (p : Plan) (i shift turn rest from : ℕ) (bits table first last before after : List ℕ) : Type 0 where
+  pub counted : Turned p i shift turn rest from
+  pub first_is : PartOf bits from rest first
+  pub last_is : PartOf bits (from + rest) turn last
+  pub before_is : PartOf table 0 turn before
+  pub after_is : PartOf table turn rest after
 
 module _ (p : Plan) (f : Fits p) where
   pub block_few : p.block ≤ 648
@@ -72,9 +103,6 @@ module _ (p : Plan) (f : Fits p) where
     -- a stream's label bits are among all streams'
     pub stream_room : i * p.block + p.block ≤ p.streams * p.block
     stream_room = let more : (i + 1) * p.block ≤ p.streams * p.block = mul-le-mul_right p.block (omega arith) in omega (arith, more)
-
-    pub stream_near : i * p.block + p.block ≤ 2592
-    stream_near = omega (arith, stream_room, f.coded_is, f.coded_most)
 
     -- its coded bits stand a few places on
     pub shift_few : i * axis_bits p.bits ≤ 12
@@ -108,8 +136,30 @@ module _ (p : Plan) (f : Fits p) where
         ∙ h'.place_back in
         omega arith
 
+    -- the parts as the code cuts them
+    pub parted : {shift turn rest from n : ℕ} {bits table first last before after : List ℕ} → Turned p i shift turn rest from
+        → p.streams * p.block ≤ length bits → p.block ≤ length table → n ≡ p.block
+        → first ≡ take rest (take n (drop from bits)) → last ≡ drop rest (take n (drop from bits))
+        → before ≡ take turn (take p.block table) → after ≡ drop turn (take p.block table)
+        → Parted p i shift turn rest from bits table first last before after
+    parted {turn = turn} {rest = rest} {from = from} {n = n} {bits = bits} {table = table} t whole wide all f-is l-is b-is a-is =
+        let own : PartOf bits from p.block (take n (drop from bits)) =
+        part_of bits from n p.block all (omega (arith, stream_room, t.from_is)) in
+        let places : PartOf table 0 p.block (take p.block table) = start_of table p.block wide in
+        record {
+          counted = t;
+          first_is = front_of rest own (omega (arith, t.whole)) f-is;
+          last_is = back_of rest own refl (omega (arith, t.whole)) l-is;
+          before_is = front_of turn places (omega (arith, t.whole)) b-is;
+          after_is = back_of turn places (omega arith) (omega (arith, t.whole)) a-is;
+        }
+
     module _ (table : List ℕ) (tabled : (r : ℕ) → r < p.block → get_or table r 0 ≡ label_source p r) where
-      module _ {shift turn rest from : ℕ} (t : Turned p i shift turn rest from) where
+      module _ {shift turn rest from : ℕ} {bits first last before after : List ℕ}
+          (parts : Parted p i shift turn rest from bits table first last before after) where
+        t : Turned p i shift turn rest from
+        t = parts.counted
+
         -- the places of the two runs
         first_run : (k : ℕ) → k < rest → get_or table (turn + k) 0 + shift ≡ slot_of p i k
         first_run k l =
@@ -122,40 +172,44 @@ module _ (p : Plan) (f : Fits p) where
             ∙ turned_bit p f i hi table tabled (rest + k) (0 + k) 1 (omega (arith, t.whole)) (omega (arith, t.whole)) (omega (arith, t.turn_is, t.whole))
 
         -- what a run of n label bits from bit `start` on asks
-        run_asked : {coded bits : List ℕ} (start first n to : ℕ) → to ≡ i * p.block + start → start + n ≤ p.block → first + n ≤ p.block
-            → ((k : ℕ) → k < n → get_or table (first + k) 0 + shift ≡ slot_of p i (start + k))
-            → length coded ≡ 2592 → p.streams * p.block ≤ length bits → p.block ≤ length table → CodedRunAsked coded bits table shift to first n
-        run_asked {coded} start first n to begins low inside places sized whole wide = record {
-          few = omega (arith, block_few);
-          near = omega (arith, stream_near);
+        run_asked : {coded part places : List ℕ} (start at n : ℕ) → start + n ≤ p.block → length part ≡ n → PartOf table at n places
+            → ((k : ℕ) → k < n → get_or table (at + k) 0 + shift ≡ slot_of p i (start + k)) → length coded ≡ 2592
+            → CodedRunAsked coded part places shift
+        run_asked {places = places} start at n inside whole placed slots sized = record {
           sized = sized;
-          inside = omega arith;
-          whole_bits = omega (arith, stream_room);
-          reached = λ k l. omega (arith, places k l, slot_lt (start + k) (omega arith));
-          apart = λ k l h b e. slot_apart (start + k) (start + l) (omega arith) (omega arith) (sym (places k (omega arith)) ∙ e ∙ places l b);
+          inside = omega (arith, placed.sized);
+          reached = λ k l. omega (arith, to k (omega arith), slot_lt (start + k) (omega arith));
+          apart = λ k l h b e.
+              slot_apart (start + k) (start + l) (omega arith) (omega arith) (sym (to k (omega arith)) ∙ e ∙ to l (omega arith));
         }
+          where
+            to : (k : ℕ) → k < n → get_or places k 0 + shift ≡ slot_of p i (start + k)
+            to k l = ap (λ (x : ℕ). x + shift) (placed.read k l) ∙ slots k l
 
-        module _ {coded bits : List ℕ} (sized : length coded ≡ 2592) (whole : p.streams * p.block ≤ length bits) (wide : p.block ≤ length table) where
-          pub first_asked : CodedRunAsked coded bits table shift from turn rest
-          first_asked =
-              run_asked 0 turn rest from (omega (arith, t.from_is)) (omega (arith, t.whole)) (omega (arith, t.whole))
-              (λ k l. first_run k l ∙ ap (slot_of p i) (omega arith)) sized whole wide
+        pub first_asked : {coded : List ℕ} → length coded ≡ 2592 → CodedRunAsked coded first after shift
+        first_asked sized =
+            run_asked 0 turn rest (omega (arith, t.whole)) parts.first_is.sized parts.after_is
+            (λ k l. first_run k l ∙ ap (slot_of p i) (omega arith)) sized
 
-          pub second_asked : CodedRunAsked coded bits table shift (from + rest) 0 turn
-          second_asked =
-              run_asked rest 0 turn (from + rest) (omega (arith, t.from_is)) (omega (arith, t.whole)) (omega (arith, t.whole)) second_run sized whole wide
+        pub second_asked : {coded : List ℕ} → length coded ≡ 2592 → CodedRunAsked coded last before shift
+        second_asked sized = run_asked rest 0 turn (omega (arith, t.whole)) parts.last_is.sized parts.before_is second_run sized
 
         -- the two runs are the stream
-        pub stream_done : (bits c₀ c₁ c₂ : List ℕ)
-            → Scattered 0 (λ k. get_or table (turn + k) 0 + shift) (λ k. get_or bits (from + k) 0) rest c₀ c₁
-            → Scattered 0 (λ k. get_or table (0 + k) 0 + shift) (λ k. get_or bits (from + rest + k) 0) turn c₁ c₂
+        pub stream_done : (c₀ c₁ c₂ : List ℕ)
+            → Scattered 0 (λ k. get_or after k 0 + shift) (λ k. get_or first k 0) (length first) c₀ c₁
+            → Scattered 0 (λ k. get_or before k 0 + shift) (λ k. get_or last k 0) (length last) c₁ c₂
             → Scattered 0 (λ r. slot_of p i r) (λ r. label_bit_in p bits i r) p.block c₀ c₂
-        stream_done bits c₀ c₁ c₂ one two =
+        stream_done c₀ c₁ c₂ one two =
             scatter_end (omega (arith, t.whole)) (scatter_join (slot_of p i) (label_bit_in p bits i) rest turn c₀ c₁ c₂
             (λ k l h b. slot_apart k l h (omega (arith, t.whole)))
-            (scatter_as _ (slot_of p i) _ (label_bit_in p bits i) rest c₀ c₁ first_run (λ k l. ap (λ (x : ℕ). get_or bits x 0) (omega (arith, t.from_is))) one)
-            (scatter_as _ (λ k. slot_of p i (rest + k)) _ (λ k. label_bit_in p bits i (rest + k)) turn c₁ c₂ second_run
-            (λ k l. ap (λ (x : ℕ). get_or bits x 0) (omega (arith, t.from_is))) two))
+            (scatter_as _ (slot_of p i) _ (label_bit_in p bits i) rest c₀ c₁
+            (λ k l. ap (λ (x : ℕ). x + shift) (parts.after_is.read k l) ∙ first_run k l)
+            (λ k l. parts.first_is.read k l ∙ ap (λ (x : ℕ). get_or bits x 0) (omega (arith, t.from_is)))
+            (scatter_end parts.first_is.sized one))
+            (scatter_as _ (λ k. slot_of p i (rest + k)) _ (λ k. label_bit_in p bits i (rest + k)) turn c₁ c₂
+            (λ k l. ap (λ (x : ℕ). x + shift) (parts.before_is.read k l) ∙ second_run k l)
+            (λ k l. parts.last_is.read k l ∙ ap (λ (x : ℕ). get_or bits x 0) (omega (arith, t.from_is)))
+            (scatter_end parts.last_is.sized two)))
 
 -- before the first stream
 pub placed_none : (p : Plan) (bits coded : List ℕ) → Placed p bits 0 coded coded

@@ -1,21 +1,19 @@
 -- What the calls that scatter label bits ask and leave: a run, a stream, all streams.
 use Rattle.std.specs.Prelude.{◌≡◌, List, ℕ, ◌+◌, ◌*◌, ◌<◌, ◌≤◌, length, get_or}
 use Rattle.chain.specs.declared.plan.Plan.{Plan}
-use Rattle.chain.specs.Plan.{Fits, most_coded, most_block}
+use Rattle.chain.specs.Plan.{Fits, most_coded}
 use Rattle.chain.specs.Labels.{share}
 use Rattle.chain.specs.Statements.{coded_stream}
 use Rattle.chain.specs.Decoder.{coded_in}
 use Rattle.sources.specs.Sources.{label_source}
 use Rattle.deinterleaver.specs.Deinterleaved.{label_bit_in, coded_of}
 
-pub record CodedRunAsked (coded bits table : List ℕ) (shift from first count : ℕ) : Type 0 where
-  pub few : first + count ≤ most_block
-  pub near : from + count ≤ most_coded
+-- label bits, each with a place of its own
+pub record CodedRunAsked (coded bits places : List ℕ) (shift : ℕ) : Type 0 where
   pub sized : length coded ≡ most_coded
-  pub inside : first + count ≤ length table
-  pub whole_bits : from + count ≤ length bits
-  pub reached : (k : ℕ) → k < count → get_or table (first + k) 0 + shift < length coded
-  pub apart : (k l : ℕ) → k < l → l < count → get_or table (first + k) 0 + shift ≡ get_or table (first + l) 0 + shift → ⊥
+  pub inside : length bits ≤ length places
+  pub reached : (k : ℕ) → k < length bits → get_or places k 0 + shift < length coded
+  pub apart : (k l : ℕ) → k < l → l < length bits → get_or places k 0 + shift ≡ get_or places l 0 + shift → ⊥
 
 -- with the table of label sources at hand, for stream i
 pub record CodedStreamAsked (coded bits table : List ℕ) (p : Plan) (i : ℕ) : Type 0 where

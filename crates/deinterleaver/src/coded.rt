@@ -1,29 +1,20 @@
 // The coded bits of a symbol from its label bits: each label bit goes to the place that the table of the sending side reads it from.
-ghost use Rattle.std.specs.Prelude.{◌+◌, get_or};
+ghost use Rattle.std.specs.Prelude.{◌+◌, length, get_or};
 ghost use Rattle.laws.specs.Scattered.{Scattered};
 ghost use Rattle.deinterleaver.specs.Deinterleaved.{label_bit_in, slot_of};
 ghost use Rattle.deinterleaver.specs.Asked.{CodedRunAsked, CodedStreamAsked, SymbolCodedAsked, Placed};
 
 use chain::plan::{MOST_BLOCK, Plan, axis_bits};
 use coding::labels::rotated_carriers;
-use sources::sources::{label_sources, source_index};
+use sources::sources::label_sources;
 
-// Label bits from `from` on, each to its place of the table, from `first` on, `shift` places on.
-fn put_run(
-    coded: &mut [u8],
-    bits: &[u8],
-    table: &[u16],
-    shift: usize,
-    from: usize,
-    first: usize,
-    count: usize,
-)
-    requires { CodedRunAsked coded.old bits.now table.now shift from first count }
-    ensures { Scattered 0 (λ k. get_or table.now (first + k) 0 + shift) (λ k. get_or bits.now (from + k) 0) count coded.old coded.new }
+// Label bits, each to its place, `shift` places on.
+fn put_run(coded: &mut [u8], bits: &[u8], places: &[u16], shift: usize)
+    requires { CodedRunAsked coded.old bits.now places.now shift }
+    ensures { Scattered 0 (λ k. get_or places.now k 0 + shift) (λ k. get_or bits.now k 0) (length bits.now) coded.old coded.new }
 {
-    for r in 0..count {
-        let at = source_index(table[first + r]) + shift;
-        coded[at] = bits[from + r];
+    for r in 0..bits.len() {
+        coded[usize::from(places[r]) + shift] = bits[r];
     }
 }
 
@@ -35,10 +26,11 @@ fn stream_coded(coded: &mut [u8], bits: &[u8], table: &[u16], plan: Plan, i: usi
     let block = plan.block;
     let shift = i * axis_bits(plan.bits);
     let turn = rotated_carriers(plan.width, i) * plan.bits;
-    let rest = block - turn;
     let from = i * block;
-    put_run(coded, bits, table, shift, from, turn, rest);
-    put_run(coded, bits, table, shift, from + rest, 0, turn);
+    let (first, last) = bits[from..from + block].split_at(block - turn);
+    let (before, after) = table[..block].split_at(turn);
+    put_run(coded, first, after, shift);
+    put_run(coded, last, before, shift);
 }
 
 // All streams' label bits: bit y of encoder j goes to 1296·j + y.
@@ -48,8 +40,7 @@ pub fn symbol_coded(coded: &mut [u8], bits: &[u8], plan: Plan)
 {
     let mut table = [0u16; MOST_BLOCK];
     label_sources(&mut table, plan);
-    let streams = plan.streams;
-    for i in 0..streams {
+    for i in 0..plan.streams {
         stream_coded(coded, bits, &table, plan, i);
     }
 }

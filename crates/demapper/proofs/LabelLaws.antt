@@ -1,16 +1,16 @@
 -- Labels from floats: what the tables of keys give is what the search among the levels gives. Assumes nothing.
 use mathlib.Core.Path.{◌≡◌, ◌∙◌, sym, ap, subst}
-use mathlib.Core.Bool.{Bool, true, false, cond, not}
+use mathlib.Core.Bool.{Bool, true, cond}
 use mathlib.Core.List.{List}
 use mathlib.Core.Logic.{⊎_elim}
-use Prim.Native.Nat.{ℕ, ◌+◌, ◌-◌, ◌/◌, ◌^◌, ◌<◌, ◌≤◌}
+use Prim.Native.Nat.{ℕ, ◌+◌, ◌/◌, ◌^◌, ◌<◌, ◌≤◌}
 use native.Mathlib.Omega.{arith}
+use Rattle.std.proofs.lemmas.Bool.Decides.{nat_tests}
 use borrow.Author.Tests.{lt-ltb, le-ltb}
-use lib.Dec.{T, eqb, ltb}
+use lib.Dec.{T, ltb}
 use lib.ListN.{length, get_or}
 use lib.IntN.{ℤ, neg_ℤ}
-use lib.Ieee.{Float, nan, inf, fin, ne, binary32, of_int, to_bits, is_nan}
-use lib.Ieee.Compare.{differs_from_itself}
+use lib.Ieee.{Float, nan, inf, fin, binary32, of_int, to_bits, is_nan}
 use Rattle.chain.specs.Plan.{axis_counts}
 use Rattle.laws.specs.Test.{among}
 use Rattle.laws.specs.Claim.{Claim, ◌is◌, ◌under◌, ◌and◌, up_to, each, given, Holds, sound}
@@ -20,19 +20,15 @@ use Rattle.laws.proofs.Refusing.{true_not_false}
 use Rattle.laws.proofs.Search.{lt_or_le}
 use Rattle.mapper.specs.Levels.{whole, level_of}
 use Rattle.demapper.specs.Demapped.{level_label, negated_label}
-use Rattle.demapper.specs.Asked.{key_of, level_keys, one_bit_keys, two_bit_keys, three_bit_keys, label_keys, Tables, flipped}
+use Rattle.demapper.specs.Asked.{key_of, level_keys, label_keys, Tables, flipped}
 use Rattle.laws.proofs.Least.{Found, found_is, first_found}
 
--- a float that does not differ from itself is no NaN, and one that does has the NaN's pattern
-pub real : (x : Float) → ne x x ≡ false → T (not (is_nan x))
-unfolding ne is_nan
-real nan e = absurd (true_not_false e)
-real (inf s) e = tt
-real (fin s m k) e = tt
-
-pub nan_bits : (x : Float) → ne x x ≡ true → to_bits binary32 x ≡ 0x7fc00000
-unfolding to_bits
-nan_bits x e = ap (to_bits binary32) (differs_from_itself x (subst T (sym e) tt))
+-- a NaN has the NaN's pattern
+pub nan_bits : (x : Float) (t : Bool) → t ≡ is_nan x → t ≡ true → 0x7fc00000 ≡ to_bits binary32 x
+unfolding is_nan to_bits
+nan_bits nan t e h = λ i. 0x7fc00000
+nan_bits (inf s) t e h = absurd (true_not_false (sym h ∙ e))
+nan_bits (fin s m k) t e h = absurd (true_not_false (sym h ∙ e))
 
 -- the bits of the level of a label, and of its negative
 abbrev pub level_bits : (s label : ℕ) → ℕ
@@ -163,9 +159,6 @@ module _ (s : ℕ) (levels labels : List ℕ) (tables : Tables s levels labels) 
   pub levels_sized : length levels ≡ 32
   levels_sized = ap length tables.levels_are
 
-  pub labels_sized : length labels ≡ 32
-  labels_sized = ap length tables.labels_are ∙ keys_sized s tables.axis
-
   pub label_there : (x : Float) (b k : ℕ) → b ≡ to_bits binary32 x → k ≡ key_of b → k < 32 → b ≡ get_or levels k 0 → get_or labels k 0 ≡ level_label s x
   label_there x b k e g small there =
       let at : k ≡ key_of (to_bits binary32 x) = g ∙ ap key_of e in
@@ -179,11 +172,6 @@ module _ (s : ℕ) (levels labels : List ℕ) (tables : Tables s levels labels) 
       ap (λ (l : List ℕ). get_or l 0 0) tables.labels_are
       ∙ key_other s tables.axis x
       (λ there. n (e ∙ there ∙ ap (λ (j : ℕ). get_or level_keys j 0) (sym at) ∙ ap (λ (l : List ℕ). get_or l k 0) (sym tables.levels_are)))
-
--- the table of s bits by the code's tests
-pub keys_by : (s : ℕ) (three two : Bool) → eqb s 3 ≡ three → eqb s 2 ≡ two → cond three three_bit_keys (cond two two_bit_keys one_bit_keys) ≡ label_keys s
-unfolding label_keys
-keys_by s three two e g = sym (simp (e, g))
 
 -- an axis has at most eight labels
 abbrev few_claim : Claim
@@ -200,14 +188,5 @@ module _ (s : ℕ) (labels : List ℕ) (known : T (among axis_counts s)) (e : la
   pub all_few : get_or labels 0 0 ≤ 8
   all_few = omega (arith, all_labels, few s known)
 
-  pub keys_some : 0 < length labels
-  keys_some = omega (arith, ap length e, keys_sized s known)
-
-  -- the flipped label by the code's tests
-  pub flip_by : (label : ℕ) (low high : Bool) → ltb label (get_or labels 0 0 / 2) ≡ low → ltb label (get_or labels 0 0) ≡ high
-      → cond low (label + get_or labels 0 0 / 2) (cond high (label - get_or labels 0 0 / 2) (get_or labels 0 0)) ≡ flipped s label
-  unfolding flipped
-  flip_by label low high p q =
-      ap (λ (t : Bool). cond t (label + get_or labels 0 0 / 2) (cond high (label - get_or labels 0 0 / 2) (get_or labels 0 0))) (sym p)
-      ∙ ap (λ (t : Bool). cond (ltb label (get_or labels 0 0 / 2)) (label + get_or labels 0 0 / 2) (cond t (label - get_or labels 0 0 / 2) (get_or labels 0 0))) (sym q)
-      ∙ ap (λ (m : ℕ). cond (ltb label (m / 2)) (label + m / 2) (cond (ltb label m) (label - m / 2) m)) all_labels
+-- what the goals of `flip` need
+pub ruleset flip_steps = (keys_sized, all_labels, nat_tests)

@@ -1,6 +1,6 @@
 -- What is read off a point: its labels, its label bits, and a pilot's test. Assumes nothing.
 use mathlib.Core.Path.{◌≡◌, ◌∙◌, refl, sym, ap, ap₂, subst}
-use mathlib.Core.Bool.{Bool, true, false, cond, ◌&&◌}
+use mathlib.Core.Bool.{Bool, true, false, cond, not, ◌&&◌}
 use mathlib.Core.List.{List}
 use Prim.Native.Nat.{ℕ, ◌+◌, ◌-◌, ◌^◌, ◌<◌, ◌≤◌}
 use native.Mathlib.Omega.{arith}
@@ -8,6 +8,7 @@ use borrow.Author.Tests.{lt-ltb, le-ltb}
 use lib.Dec.{T, eqb, ltb}
 use lib.ListN.{get_or}
 use lib.IntN.{ℤ, pos, nat_abs}
+use mir.Val.{bool_byte}
 use lib.Ieee.{Float, binary32, of_int, to_bits}
 use Rattle.laws.specs.Test.{among}
 use Rattle.laws.specs.Claim.{Claim, ◌is◌, ◌under◌, ◌and◌, each, given, unless, Holds, sound}
@@ -32,12 +33,16 @@ unfolding of_int to_bits
 zero_bits = refl
 
 -- the second label at B = 1: whether the level is 0
-pub second_one : (bits : ℕ) (t : Bool) (x y v : Float) (b : ℕ) (zero : Bool) → eqb bits 1 ≡ true → v ≡ cond t x y → b ≡ to_bits binary32 v → eqb b 0 ≡ zero
-    → cond zero 0 1 ≡ second_label bits t x y
-second_one bits t x y v b zero one v-is told e =
-    let same : eqb (to_bits binary32 (cond t x y)) (to_bits binary32 (whole (pos 0))) ≡ zero =
-    ap₂ eqb (ap (to_bits binary32) (sym v-is) ∙ sym told) zero_bits ∙ e in
-    simp (one, same)
+pub second_one : (bits : ℕ) (t : Bool) (x y v : Float) (b r : ℕ) → bits ≡ 1 → v ≡ cond t x y → b ≡ to_bits binary32 v
+    → r ≡ bool_byte (not (eqb b 0)) → r ≡ second_label bits t x y
+second_one bits t x y v b r one v-is told e =
+    let same : eqb (to_bits binary32 (cond t x y)) (to_bits binary32 (whole (pos 0))) ≡ eqb b 0 =
+    ap₂ eqb (ap (to_bits binary32) (sym v-is) ∙ sym told) zero_bits in
+    e ∙ byte_of (eqb b 0) ∙ rw one (simp same)
+  where
+    byte_of : (z : Bool) → bool_byte (not z) ≡ cond z 0 1
+    byte_of true = refl
+    byte_of false = refl
 
 -- and else, by the turn
 pub second_two : (bits s : ℕ) (t : Bool) (x y : Float) (turned : Bool) (r : ℕ) → eqb bits 1 ≡ false → s ≡ axis_bits bits → t ≡ turned

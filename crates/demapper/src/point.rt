@@ -1,5 +1,5 @@
 // A point's two labels from its two floats, its label bits, and the test of a pilot.
-ghost use Rattle.std.specs.Prelude.{◌≡◌, cond, ◌+◌, ◌≤◌, eqb, length};
+ghost use Rattle.std.specs.Prelude.{◌≡◌, cond, ◌+◌, ◌≤◌, length};
 ghost use Rattle.laws.specs.Filled.{Filled};
 ghost use Rattle.demapper.specs.Demapped.{bit_of_label, second_label};
 ghost use Rattle.demapper.specs.Asked.{PointTables, PointRead, DataHeard, pilot_heard};
@@ -22,59 +22,46 @@ fn either(turned: bool, a: f32, b: f32) -> f32
     if turned { a } else { b }
 }
 
-// The label of the second level, which the turn has put first and negated. At B = 1 there is one label, of level 0.
-fn second_label(
-    levels: &[u32],
-    labels: &[u8],
+// The points of so many bits, with the tables of their levels and labels at hand.
+#[derive(Clone, Copy)]
+struct Constellation<'a> {
+    levels: &'a [u32],
+    labels: &'a [u8],
     bits: usize,
     s: usize,
-    turned: bool,
-    x: f32,
-    y: f32,
-) -> u8
-    requires { PointTables bits s levels.now labels.now }
-    ensures { result ≡ second_label bits turned x y }
-{
-    let one_level = bits == 1;
-    if one_level {
-        let zero = bits_of(either(turned, x, y)) == 0;
-        return if zero { 0 } else { 1 };
-    }
-    if turned {
-        return negated_label(levels, labels, s, x);
-    }
-    level_label(levels, labels, s, y)
+    ghost tables: { PointTables bits s levels.now labels.now },
 }
 
-// How many labels a second level has: one at B = 1.
-fn seconds(all: u8, bits: usize) -> u8
-    ensures { result ≡ cond (eqb bits 1) 1 all }
-{
-    let one_level = bits == 1;
-    if one_level { 1 } else { all }
-}
+impl Constellation<'_> {
+    // The label of the second level, which the turn has put first and negated. At B = 1 there is one label, of level 0.
+    fn second_label(&self, turned: bool, x: f32, y: f32) -> u8
+        ensures { result ≡ second_label self.now.bits turned x y }
+    {
+        if self.bits == 1 {
+            return u8::from(bits_of(either(turned, x, y)) != 0);
+        }
+        if turned {
+            negated_label(self.levels, self.labels, self.s, x)
+        } else {
+            level_label(self.levels, self.labels, self.s, y)
+        }
+    }
 
-// The labels of the point (x, y) as it was sent, the turn undone without changing a float.
-fn point_labels(
-    levels: &[u32],
-    labels: &[u8],
-    bits: usize,
-    s: usize,
-    turned: bool,
-    x: f32,
-    y: f32,
-) -> PointLabels
-    requires { PointTables bits s levels.now labels.now }
-    ensures { PointRead bits turned x y result }
-{
-    let first = level_label(levels, labels, s, either(turned, y, x));
-    let second = second_label(levels, labels, bits, s, turned, x, y);
-    let all = labels[0];
-    let given = (first < all) & (second < seconds(all, bits));
-    PointLabels {
-        first,
-        second,
-        given,
+    // The labels of the point (x, y) as it was sent, the turn undone without changing a float.
+    #[tactic(auto, using(crate::proofs::LabelLaws::keys_sized))]
+    fn point_labels(&self, turned: bool, x: f32, y: f32) -> PointLabels
+        ensures { PointRead self.now.bits turned x y result }
+    {
+        let first = level_label(self.levels, self.labels, self.s, either(turned, y, x));
+        let second = self.second_label(turned, x, y);
+        let all = self.labels[0];
+        let seconds = if self.bits == 1 { 1 } else { all };
+        let given = (first < all) & (second < seconds);
+        PointLabels {
+            first,
+            second,
+            given,
+        }
     }
 }
 
@@ -103,7 +90,13 @@ pub fn hear_data(
     requires { PointTables bits s levels.now labels.now × (at + bits ≤ length out.old) }
     ensures { DataHeard bits turned x y at result out.old out.new }
 {
-    let p = point_labels(levels, labels, bits, s, turned, x, y);
+    let constellation = Constellation {
+        levels,
+        labels,
+        bits,
+        s,
+    };
+    let p = constellation.point_labels(turned, x, y);
     put_label(out, at, s, p.first);
     if bits == 1 {
         return p.given;

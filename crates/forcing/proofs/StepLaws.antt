@@ -5,21 +5,14 @@ use mathlib.Core.List.{List}
 use Prim.Native.Nat.{ℕ, zero, suc, ◌+◌, ◌-◌, ◌*◌, ◌/◌, ◌%◌, ◌<◌, ◌≤◌}
 use native.Mathlib.Nat.{mod-lt, add-zero, add-suc, div-add-mod', mul-le-mul_left, mul-suc}
 use native.Mathlib.Numerals.{add-one}
-use native.Mathlib.Decide.{ℕ_discrete}
 use native.Mathlib.Omega.{arith}
 use lib.ListN.{length, set}
-use borrow.Author.Tests.{eq-eqb, ne_eqb}
 use Rattle.laws.specs.Scattered.{Scattered}
 use Rattle.laws.proofs.Radix.{rem_of, quot_of}
 use Rattle.laws.proofs.Scattering.{scatter_none, scatter_more}
-use Rattle.chain.specs.Decoder.{history_a, history_b, sum_after, forcing_bit, forced_push, forced_history, forced_input}
+use Rattle.chain.specs.Decoder.{sum_after, forcing_bit, forced_push, forced_history, forced_input}
 use Rattle.deinterleaver.proofs.ScatterLaws.{scatter_end, scatter_as, scatter_join}
 use Rattle.forcing.specs.Asked.{StepDone, Part}
-
--- a sum by its two cases
-pub sum_by : (m h b r : ℕ) → (m % 2 ≡ 0 → r ≡ history_a h b) → ((m % 2 ≡ 0 → ⊥) → r ≡ history_b h b) → r ≡ sum_after m h b
-unfolding sum_after
-sum_by m h b r f g = elim (ℕ_discrete (m % 2) 0) [ yes e ↦ simp (eq-eqb (m % 2) 0 e) (f e) | no e ↦ simp (ne_eqb (m % 2) 0 e) (g e) ]
 
 -- a store in steps of the number of encoders
 stride_apart : (e first k n : ℕ) → 1 ≤ e → k < n → e * k + first ≡ e * n + first → ⊥

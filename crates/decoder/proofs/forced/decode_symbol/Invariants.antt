@@ -1,5 +1,4 @@
 -- `decode_symbol`: before each turn, the encoders passed are inverted.
-use Prim.Native.Nat.{◌-◌}
 use Rattle.deinterleaver.specs.Deinterleaved.{coded_of}
 use Rattle.decoder.specs.Decoded.{histories_in}
 use Rattle.decoder.proofs.EncoderLaws.{Passed}

@@ -1,7 +1,7 @@
 -- `symbol_coded` places the label bits stream by stream.
-use Prim.Native.Nat.{◌-◌, ◌≤◌}
+
 use Rattle.deinterleaver.specs.Asked.{Placed}
 use Rattle.deinterleaver.proofs.coded.symbol_coded.Given as goal
 
 abbrev pub invariant-loop-i : goal.invariant-loop-i
-invariant-loop-i l = (l.i ≤ l.streams) × Placed l.plan l.bits l.i l.initial.coded l.coded
+invariant-loop-i l = Placed l.plan l.bits l.i l.initial.coded l.coded

@@ -1,13 +1,6 @@
 -- `level_label`: the label at the pattern's key, where the pattern stands there.
-use native.Mathlib.Omega.{arith}
-use Rattle.demapper.proofs.LabelLaws.{labels_sized, label_there, label_other}
+use Rattle.demapper.proofs.LabelLaws.{label_there, label_other}
 use Rattle.demapper.proofs.level.level_label.Goals as goal
-
-pub bounds-labels-k : goal.bounds-labels-k
-bounds-labels-k c = omega (arith, c.key_of-k.ensures.1, labels_sized c.args.s c.args.levels.now c.args.labels.now c.requires)
-
-pub bounds-labels-0 : goal.bounds-labels-0
-bounds-labels-0 c = omega (arith, labels_sized c.args.s c.args.levels.now c.args.labels.now c.requires)
 
 pub returns-then-pattern-levels : goal.returns-then-pattern-levels
 returns-then-pattern-levels c = label_there c.args.s c.args.levels.now c.args.labels.now c.requires c.args.x _ _ c.bits_of-pattern.ensures

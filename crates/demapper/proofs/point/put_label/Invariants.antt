@@ -1,9 +1,7 @@
 -- `put_label` stores one bit of the label a turn.
-use Prim.Native.Nat.{◌-◌, ◌≤◌}
 use Rattle.laws.specs.Filled.{Filled}
 use Rattle.demapper.specs.Demapped.{bit_of_label}
 use Rattle.demapper.proofs.point.put_label.Given as goal
 
--- `put_label` stores one bit of the label a turn.
 abbrev pub invariant-loop-t : goal.invariant-loop-t
-invariant-loop-t l = (l.t ≤ l.s) × Filled 0 l.at (bit_of_label l.s l.label) l.t l.initial.out l.out
+invariant-loop-t l = Filled 0 l.at (bit_of_label l.s l.label) l.t l.initial.out l.out

@@ -1,12 +1,12 @@
 -- `symbol_bits`: before each place, every point passed is given and its label bits are stored.
-use mathlib.Core.List.{List}
-use Prim.Native.Nat.{ℕ, ◌-◌, ◌≤◌}
+use Rattle.std.proofs.Common.{◌≡◌, List, ℕ, None}
 use Rattle.detector.proofs.SearchLaws.{RowsHeard, PlacesHeard}
 use Rattle.detector.proofs.search.symbol_bits.Given as goal
 
 -- `symbol_bits`: before each place, every point passed is given and its label bits are stored.
-abbrev pub invariant-loop-i : goal.invariant-loop-i
-invariant-loop-i l = (l.i ≤ l.plan.streams) × RowsHeard l.plan l.points l.format l.n l.i l.initial.bits l.bits
+abbrev pub invariant-streams : goal.invariant-streams
+invariant-streams l = (l.found ≡ None) × RowsHeard l.fn.plan l.points l.format l.n l.i l.initial.bits l.bits
 
 abbrev pub invariant-loop-f : goal.invariant-loop-f
-invariant-loop-f l = (l.f ≤ l.places) × ((d : List ℕ) → RowsHeard l.plan l.points l.format l.n l.i d l.initial.bits → PlacesHeard l.plan l.points l.format l.n l.i l.f d l.bits)
+invariant-loop-f l = (l.found ≡ None) × ((d : List ℕ) → RowsHeard l.fn.plan l.points l.format l.n l.i d l.initial.bits
+    → PlacesHeard l.fn.plan l.points l.format l.n l.i l.f d l.bits)
