@@ -19,7 +19,7 @@ pub fn crc(head: u64) -> u64
 {
     let mut r: u64 = 255;
     let mut w = head;
-    for i in 0..34 {
+    for i in 0u64..34 {
         r = crc_shift(r, w % 2);
         w = w / 2;
     }
