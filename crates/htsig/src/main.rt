@@ -8,7 +8,7 @@ ghost use Rattle.std.specs.Io.KnownBytes.{Appends, Consumes, IsAtEnd};
 ghost use Rattle.lines.specs.Lines.{lines_of};
 ghost use Rattle.listing.specs.Listing.{listing_of, rows_of};
 
-use lines::lines::{NextLine, next_line, too_long};
+use lines::lines::{next_line, too_long};
 use listing::rows;
 use std::io::{self, Read, Write};
 use text::printing;
@@ -35,17 +35,12 @@ fn print_lines<W: Write>(out: &mut W, input: &[u8]) -> io::Result<()>
     ensures { OnOk result (Appends (W.contents out.old) (W.contents out.new) (rows_of (lines_of input.now))) }
 {
     let mut at = 0;
-    loop {
-        let found = next_line(input, at);
-        let NextLine::Line { start, end, next } = found else {
-            return Ok(());
-        };
-        let row = rows::row(&input[start..end]);
-        let bytes = row.bytes;
-        let len = row.len;
-        out.write_all(&bytes[..len])?;
-        at = next;
+    while let Some(line) = next_line(input, at) {
+        let row = rows::row(&input[line.start..line.end]);
+        out.write_all(row.as_slice())?;
+        at = line.next;
     }
+    Ok(())
 }
 
 // The header, and a row for each line or that the input is too long.
@@ -53,8 +48,7 @@ fn print_listing<W: Write>(out: &mut W, input: &[u8]) -> io::Result<()>
     ensures { OnOk result (Appends (W.contents out.old) (W.contents out.new) (listing_of input.now)) }
 {
     out.write_all(&printing::header())?;
-    let refused = too_long(input);
-    if refused {
+    if too_long(input) {
         return out.write_all(&printing::too_long_text());
     }
     print_lines(out, input)

@@ -1,12 +1,9 @@
--- How far a test goes from a place on, and what one turn of a loop over it says. Assumes nothing.
-use mathlib.Core.Path.{◌≡◌}
-use mathlib.Core.Bool.{Bool, true, false, cond}
-use mathlib.Core.List.{List, [], ◌∷◌}
-use Prim.Native.Nat.{ℕ, suc, ◌+◌, ◌<◌, ◌≤◌}
-use native.Mathlib.Numerals.{add-one}
-use native.Mathlib.Omega.{arith}
-use lib.ListN.{length, get_or, drop, length-drop, drop_of_length-le}
-use lib.Seq.{drop-cons}
+-- How far a test goes along a list: within it, and what std's words say of it. Assumes nothing.
+use Rattle.std.proofs.Common.{◌≡◌, refl, Bool, true, false, cond, not, Some, None, ltb, ℕ, suc}
+use Rattle.std.proofs.Common.{◌+◌, ◌≤◌, List, [], ◌∷◌, length, drop, arith, length-drop}
+use Rattle.std.specs.List.{prefix_len, position, position_or_len}
+use Rattle.std.specs.Option.{unwrap_or}
+use Rattle.std.proofs.lemmas.Bool.{ltb-false}
 use Rattle.laws.specs.Stretch.{stretch}
 
 -- a test goes no further than the list
@@ -18,29 +15,26 @@ stretch_within f (b ∷ bs) = by (f b) (stretch_within f bs)
     by true h = omega arith
     by false h = omega arith
 
-module _ (f : ℕ → Bool) (l : List ℕ) (i : ℕ) where
-  -- where the test passes, the stretch is one longer than the stretch behind
-  pub stretch_step : i < length l → f (get_or l i 0) ≡ true → stretch f (drop i l) ≡ suc (stretch f (drop (i + 1) l))
-  stretch_step h e = rw (add-one, drop-cons l i 0 h) (simp e)
+-- a stretch from within the list ends within it
+pub ends_within : (f : ℕ → Bool) (l : List ℕ) (i : ℕ) → i ≤ length l → i + stretch f (drop i l) ≤ length l
+ends_within f l i h = omega (arith, stretch_within f (drop i l), length-drop i l)
 
-  -- where it fails, the stretch is empty
-  pub stretch_stop : i < length l → f (get_or l i 0) ≡ false → stretch f (drop i l) ≡ 0
-  stretch_stop h e = rw (drop-cons l i 0 h) (simp e)
+stretch_prefix : {g f : ℕ → Bool} → ((b : ℕ) → g b ≡ f b) → (l : List ℕ) → prefix_len g l ≡ stretch f l
+stretch_prefix e [] = refl
+stretch_prefix {g} {f} e (b ∷ bs) = rw (e b) (by (f b) (stretch_prefix e bs))
+  where
+    by : (t : Bool) → prefix_len g bs ≡ stretch f bs → cond t (1 + prefix_len g bs) 0 ≡ cond t (suc (stretch f bs)) 0
+    by true h = omega arith
+    by false h = refl
 
-  -- and at the end
-  pub stretch_end : length l ≤ i → stretch f (drop i l) ≡ 0
-  stretch_end h = rw (drop_of_length-le l h)
+-- where the first number stands that ends a stretch, or the list's end
+pub stretch_position : (p f : ℕ → Bool) → ((b : ℕ) → not (p b) ≡ f b) → (l : List ℕ) → unwrap_or (position p l) (length l) ≡ stretch f l
+stretch_position p f e l = by (ltb (position_or_len p l) (length l)) refl
+  where
+    same : position_or_len p l ≡ stretch f l
+    same = stretch_prefix e l
 
-  -- what the loop keeps: where the stretch ends is the same from every place of it
-  pub passed : {z : ℕ} → i < length l → f (get_or l i 0) ≡ true → i + stretch f (drop i l) ≡ z → i + 1 + stretch f (drop (i + 1) l) ≡ z
-  passed h e k = omega (arith, stretch_step h e)
-
-  pub stopped : {z : ℕ} → i < length l → f (get_or l i 0) ≡ false → i + stretch f (drop i l) ≡ z → i ≡ z
-  stopped h e k = omega (arith, stretch_stop h e)
-
-  pub ended : {z : ℕ} → length l ≤ i → i + stretch f (drop i l) ≡ z → i ≡ z
-  ended h k = omega (arith, stretch_end h)
-
-  -- a stretch from within the list ends within it
-  pub ends_within : i ≤ length l → i + stretch f (drop i l) ≤ length l
-  ends_within h = omega (arith, stretch_within f (drop i l), length-drop i l)
+    by : (t : Bool) → ltb (position_or_len p l) (length l) ≡ t
+        → unwrap_or (cond t (Some (position_or_len p l)) None) (length l) ≡ stretch f l
+    by true k = same
+    by false k = omega (arith, ltb-false (position_or_len p l) (length l) k, same, stretch_within f l)

@@ -1,16 +1,13 @@
 -- The next line and the lines of a text. Assumes nothing.
-use mathlib.Core.Path.{◌≡◌, refl, sym, ap, ◌∙◌}
-use mathlib.Core.Bool.{Bool, true, false, cond, not}
-use mathlib.Core.List.{List, [], ◌∷◌, ◌++◌, append-nil, append_assoc}
-use Prim.Native.Nat.{ℕ, suc, ◌+◌, ◌-◌, ◌<◌, ◌≤◌}
-use native.Mathlib.Omega.{arith}
-use lib.Dec.{eqb, ltb}
-use lib.ListN.{length, take, drop, length-drop, drop_of_length-le}
-use lib.Seq.{drop-drop}
-use borrow.Author.Tests.{ltb-true, ltb-false}
+use Rattle.std.proofs.Common.{◌≡◌, refl, sym, ap, ◌∙◌, Bool, true, false, cond, not}
+use Rattle.std.proofs.Common.{Some, None, List, [], ◌∷◌, ◌++◌, append-nil, append_assoc}
+use Rattle.std.proofs.Common.{ℕ, suc, ◌+◌, ◌-◌, ◌<◌, ◌≤◌, arith, eqb, ltb, length, take, drop, length-drop, drop_of_length-le}
+use Rattle.std.proofs.lemmas.Option.{none-some, cond_some}
+use Rattle.std.proofs.lemmas.Bool.{ltb-true, ltb-false}
+use Rattle.std.proofs.Math.Seq.{drop-drop}
 use Rattle.laws.specs.Stretch.{stretch}
 use Rattle.laws.proofs.Stretches.{ends_within}
-use Rattle.lines.specs.declared.lines.NextLine.TheVariants.{Line, End}
+use Rattle.lines.specs.declared.lines.Line.{Line}
 use Rattle.lines.specs.Lines.{lines_from, lines_of, is_in_line, next_line_of}
 
 -- the line under way, the rest of it, and the lines behind the line feed
@@ -37,6 +34,9 @@ lines_first (b ∷ bs) h = by (eqb b 10)
         → cond t ([] ∷ lines_from [] bs) (lines_from (b ∷ []) bs) ≡ take (cond (not t) (suc (stretch is_in_line bs)) 0) (b ∷ bs) ∷ lines_from [] (drop (suc (cond (not t) (suc (stretch is_in_line bs)) 0)) (b ∷ bs))
     by true = refl
     by false = lines_behind b [] bs
+
+abbrev line_at : ℕ → ℕ → Line
+line_at at end = record { start = at; end = end; next = end + 1 }
 
 -- what the next line says of the lines from a place on
 pub record LineAt (text : List ℕ) (at s e x : ℕ) : Type 0 where
@@ -68,27 +68,14 @@ module _ (text : List ℕ) (at : ℕ) where
       }
 
   -- where there is no next line, no line is left; where there is one, it is the first of those that are left
-  pub next_line_end : next_line_of text at ≡ End → lines_of (drop at text) ≡ []
+  pub next_line_end : next_line_of text at ≡ None → lines_of (drop at text) ≡ []
   next_line_end = by (ltb at (length text)) refl
     where
-      by : (t : Bool) → ltb at (length text) ≡ t → cond t (Line at ends (ends + 1)) End ≡ End → lines_of (drop at text) ≡ []
-      by true p e = let z : ◌≡◌ {A = ℕ} 0 1 = cc in absurd (omega arith)
+      by : (t : Bool) → ltb at (length text) ≡ t → cond t (Some (line_at at ends)) None ≡ None → lines_of (drop at text) ≡ []
+      by true p e = absurd (none-some _ (sym e))
       by false p e = rw (drop_of_length-le text (ltb-false at (length text) p))
 
-  pub next_line_lines : (s e x : ℕ) → next_line_of text at ≡ Line s e x → LineAt text at s e x
-  next_line_lines s e x = by (ltb at (length text)) refl
-    where
-      by : (t : Bool) → ltb at (length text) ≡ t → cond t (Line at ends (ends + 1)) End ≡ Line s e x → LineAt text at s e x
-      by true p k =
-          let a : at ≡ s = cc in
-          let b : ends ≡ e = cc in
-          let c : ends + 1 ≡ x = cc in
-          rw (← a, ← b, ← c) (line_here (ltb-true at (length text) p))
-      by false p k = let z : ◌≡◌ {A = ℕ} 0 1 = cc in absurd (omega arith)
-
-  -- the two ways out of the code
-  pub next_is_end : ltb at (length text) ≡ false → End ≡ next_line_of text at
-  next_is_end p = simp p
-
-  pub next_is_line : (e : ℕ) → ltb at (length text) ≡ true → e ≡ ends → Line at e (e + 1) ≡ next_line_of text at
-  next_is_line e p k = simp (p, k)
+  pub next_line_lines : (l : Line) → next_line_of text at ≡ Some l → LineAt text at l.start l.end l.next
+  next_line_lines l e =
+      let (inside, here) = cond_some (ltb at (length text)) (line_at at ends) l e in
+      rw (← here) (line_here (ltb-true at (length text) inside))

@@ -1,8 +1,7 @@
 -- Lines: "Each line, ended by a line feed or the end (an empty rest at the end is no line)" (document 01, 'Checked by hand').
-use Rattle.std.specs.Prelude.{Bool, cond, not, List, [], ◌∷◌, ◌++◌, ℕ, ◌+◌, eqb, ltb, length, drop}
+use Rattle.std.specs.Prelude.{Bool, cond, not, Option, Some, None, List, [], ◌∷◌, ◌++◌, ℕ, ◌+◌, eqb, ltb, length, drop}
 use Rattle.laws.specs.Stretch.{stretch}
-use Rattle.lines.specs.declared.lines.NextLine.{NextLine}
-use Rattle.lines.specs.declared.lines.NextLine.TheVariants.{Line, End}
+use Rattle.lines.specs.declared.lines.Line.{Line}
 
 -- the lines of a text, where `line` is what the line under way has so far
 abbrev pub lines_from : List ℕ → List ℕ → List (List ℕ)
@@ -19,8 +18,7 @@ abbrev pub is_in_line : ℕ → Bool
 is_in_line b = not (eqb b 10)
 
 -- the line that starts at a place: up to the line feed or the end, and the next from behind it
-abbrev pub next_line_of : List ℕ → ℕ → NextLine
+abbrev pub next_line_of : List ℕ → ℕ → Option Line
 next_line_of text at =
-    cond (ltb at (length text))
-    (Line at (at + stretch is_in_line (drop at text)) (at + stretch is_in_line (drop at text) + 1))
-    End
+    let end = at + stretch is_in_line (drop at text) in
+    cond (ltb at (length text)) (Some (record { start = at; end = end; next = end + 1 })) None

@@ -1,5 +1,5 @@
 // The input's size, and its lines.
-ghost use Rattle.std.specs.Prelude.{◌≡◌, ◌+◌, ◌≤◌, ltb, length, drop};
+ghost use Rattle.std.specs.Prelude.{◌≡◌, ◌≤◌, ltb, length};
 ghost use Rattle.laws.specs.Stretch.{stretch};
 ghost use Rattle.lines.specs.Lines.{is_in_line, next_line_of};
 
@@ -12,49 +12,30 @@ pub fn too_long(input: &[u8]) -> bool
 
 // A line stands from `start` up to `end`; the one after it is looked for from `next` on.
 #[derive(Clone, Copy)]
-pub enum NextLine {
-    Line {
-        start: usize,
-        end: usize,
-        next: usize,
-    },
-    End,
+pub struct Line {
+    pub start: usize,
+    pub end: usize,
+    pub next: usize,
 }
 
-fn is_in_line(b: u8) -> bool
-    ensures { result ≡ is_in_line b }
+// How many bytes stand before the first line feed, or the end.
+fn line_len(text: &[u8]) -> usize
+    ensures { (result ≡ stretch is_in_line text.now) × (result ≤ length text.now) }
 {
-    b != 10
-}
-
-// The first line feed at `at` or later, or the end of the input.
-fn line_end(input: &[u8], at: usize) -> usize
-    requires { at ≤ length input.now }
-    ensures { (result ≡ at + stretch is_in_line (drop at input.now)) × (result ≤ length input.now) }
-{
-    let mut i = at;
-    while i < input.len() {
-        let inside = is_in_line(input[i]);
-        if !inside {
-            return i;
-        }
-        i += 1;
-    }
-    i
+    text.iter().position(|&b| b == 10).unwrap_or(text.len())
 }
 
 // The line that starts at `at`. An empty rest at the end of the input is no line.
-pub fn next_line(input: &[u8], at: usize) -> NextLine
+pub fn next_line(input: &[u8], at: usize) -> Option<Line>
     ensures { result ≡ next_line_of input.now at }
 {
-    let inside = at < input.len();
-    if !inside {
-        return NextLine::End;
+    if at >= input.len() {
+        return None;
     }
-    let end = line_end(input, at);
-    NextLine::Line {
+    let end = at + line_len(&input[at..]);
+    Some(Line {
         start: at,
         end,
         next: end + 1,
-    }
+    })
 }

@@ -1,14 +1,13 @@
 -- "Fields printed: the three inputs without leading zeros, the symbol count, the six signal bytes in order in capitals;
 -- or the inputs and `refused` with its number" (document 01, 'Checked by hand').
 use Rattle.settings.specs.declared.settings.Settings.{Settings}
-use Rattle.std.specs.Prelude.{true, false, List, [], ◌∷◌, ◌++◌, ℕ, Err, Ok, Result}
+use Rattle.std.specs.Prelude.{true, false, Option, Some, None, List, [], ◌∷◌, ◌++◌, ℕ, Err, Ok, Result}
 use Rattle.settings.specs.declared.settings.RawSettings.{RawSettings}
 use Rattle.settings.specs.declared.settings.Refusal.{Refusal}
 use Rattle.settings.specs.Settings.{check_of, number_of}
 use Rattle.symbols.specs.Symbols.{symbols_of}
 use Rattle.signal.specs.HtSig.{fields_of, sig_bytes}
-use Rattle.parsing.specs.declared.numbers.Parsed.{Parsed}
-use Rattle.parsing.specs.declared.numbers.Parsed.TheVariants.{Numbers, Malformed}
+use Rattle.parsing.specs.declared.numbers.Numbers.{Numbers}
 use Rattle.parsing.specs.Parsing.{parsed_of}
 use Rattle.text.specs.Printing.{decimal, hex_bytes}
 
@@ -50,9 +49,9 @@ row_for m w n = inputs_text m w n ++ answer_text (check_of (raw_for m w n))
 abbrev pub malformed_text : List ℕ
 malformed_text = 109 ∷ 97 ∷ 108 ∷ 102 ∷ 111 ∷ 114 ∷ 109 ∷ 101 ∷ 100 ∷ 10 ∷ []
 
-abbrev pub row_by : Parsed → List ℕ
-row_by (Numbers m w n) = row_for m w n
-row_by Malformed = malformed_text
+abbrev pub row_by : Option Numbers → List ℕ
+row_by (Some n) = row_for n.mcs n.width n.length
+row_by None = malformed_text
 
 -- what is printed for a line
 abbrev pub row_of : List ℕ → List ℕ

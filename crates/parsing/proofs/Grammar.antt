@@ -1,20 +1,18 @@
 -- The parse and the grammar: a line is parsed to three numbers exactly if it is three numbers with one space between. Assumes nothing.
-use mathlib.Core.Path.{◌≡◌, refl, sym, ap, subst, ◌∙◌}
-use mathlib.Core.Bool.{Bool, true, false, cond, ◌&&◌}
-use mathlib.Core.Logic.{◌↔◌}
-use mathlib.Core.List.{List, [], ◌∷◌, ◌++◌}
-use Prim.Native.Nat.{ℕ, suc, ◌+◌, ◌-◌, ◌<◌, ◌≤◌}
-use native.Mathlib.Numerals.{add-one}
-use native.Mathlib.Omega.{arith}
-use borrow.Author.Tests.{ltb-true, leb-true, eqb-true, lt-ltb, le-leb, eq-eqb}
-use lib.Dec.{ltb, leb, eqb}
-use lib.ListN.{length, get_or, take, drop, length-append, length-drop, take-append-drop}
-use lib.Seq.{drop-cons, drop-drop, take_all, take_at, drop-append-add, get_or-drop, get_or_at, length-take-le}
+use Rattle.std.proofs.Common.{◌≡◌, ◌≢◌, refl, sym, ap, subst, ◌∙◌, Bool, true, false, cond, ◌&&◌}
+use Rattle.std.proofs.Common.{◌↔◌, Option, Some, None, List, [], ◌∷◌, ◌++◌}
+use Rattle.std.proofs.Common.{ℕ, suc, ◌+◌, ◌-◌, ◌<◌, ◌≤◌, add-one, arith, ltb, leb, eqb}
+use Rattle.std.proofs.Common.{length, get_or, take, drop, length-append, length-drop, take-append-drop}
+use Rattle.std.proofs.lemmas.Bool.{ltb-true, leb-true, eqb-true, lt-ltb, le-leb, eq-eqb, ne_eqb}
+use Rattle.std.proofs.Math.Seq.{drop-cons, drop-drop, take_all, take_at, drop-append-add, get_or-drop, get_or_at, length-take-le}
 use Rattle.laws.specs.Stretch.{stretch}
 use Rattle.laws.proofs.Reflect.{and_true, both_true}
-use Rattle.parsing.specs.declared.numbers.Parsed.{Parsed}
-use Rattle.parsing.specs.declared.numbers.Parsed.TheVariants.{Numbers, Malformed}
-use Rattle.parsing.specs.Parsing.{is_digit, one_to_five, decimal_value, separated_at, digits_end, value_in, parsed_of, FiveDigits, AllDigits, Number, ThreeNumbers, parsed_at}
+use Rattle.parsing.specs.declared.numbers.Numbers.{Numbers}
+use Rattle.parsing.specs.Parsing.{numbers, is_digit, one_to_five, decimal_value, separated_at, digits_end, value_in}
+use Rattle.parsing.specs.Parsing.{parsed_of, FiveDigits, AllDigits, Number, ThreeNumbers, parsed_at}
+use Rattle.std.proofs.Math.Bool.{and-false}
+use Rattle.std.specs.Bool.{then_some}
+use Rattle.std.proofs.lemmas.Option.{none-some, cond_some}
 use Rattle.parsing.proofs.Values.{tens_most, value_below}
 
 -- ---- the tests
@@ -27,15 +25,6 @@ five_true n e =
 true_five : (n : ℕ) → 1 ≤ n → n ≤ 5 → one_to_five n ≡ true
 true_five n h k = both_true (le-leb 1 n h) (le-leb n 5 k)
 
-pub third_true : (b c n : ℕ) → (one_to_five (c - (b + 1)) && eqb c n) ≡ true → (1 ≤ c - (b + 1)) × (c - (b + 1) ≤ 5) × (c ≡ n)
-third_true b c n e =
-    let w = and_true (one_to_five (c - (b + 1))) (eqb c n) e in
-    let f = five_true (c - (b + 1)) w.0 in
-    (f.0, f.1, eqb-true c n w.1)
-
-pub third_by : {t v : Bool} (b c n : ℕ) → t ≡ one_to_five (c - (b + 1)) → (t && eqb c n) ≡ v → (one_to_five (c - (b + 1)) && eqb c n) ≡ v
-third_by b c n e f = sym (ap (λ (x : Bool). x && eqb c n) e) ∙ f
-
 digit_true : (b : ℕ) → is_digit b ≡ true → (48 ≤ b) × (b ≤ 57)
 digit_true b e =
     let w = and_true (leb 48 b) (leb b 57) e in
@@ -43,11 +32,6 @@ digit_true b e =
 
 true_digit : (b : ℕ) → (48 ≤ b) × (b ≤ 57) → is_digit b ≡ true
 true_digit b h = both_true (le-leb 48 b h.0) (le-leb b 57 h.1)
-
--- the ways out of the code's test for a separated number, by the tests' values
-pub separated_by : (l : List ℕ) (from to : ℕ) (p q : Bool) → one_to_five (to - from) ≡ p → ltb to (length l) ≡ q
-    → (p && (q && eqb (get_or l to 0) 32)) ≡ separated_at l from to
-separated_by l from to p q e f = simp (e, f)
 
 -- one to five digits, and a space behind them
 pub record Separated (l : List ℕ) (from to : ℕ) : Type 0 where
@@ -88,30 +72,23 @@ pub record Parts (l : List ℕ) (a b c m w n : ℕ) : Type 0 where
   pub width : value_in l (a + 1) b ≡ w
   pub count : value_in l (b + 1) c ≡ n
 
-parts_of : (l : List ℕ) (a b c m w n : ℕ) → parsed_at l a b c ≡ Numbers m w n → Parts l a b c m w n
-parts_of l a b c m w n = by (separated_at l 0 a && (separated_at l (a + 1) b && (one_to_five (c - (b + 1)) && eqb c (length l)))) refl
-  where
-    by : (t : Bool) → (separated_at l 0 a && (separated_at l (a + 1) b && (one_to_five (c - (b + 1)) && eqb c (length l)))) ≡ t
-        → cond t (Numbers (value_in l 0 a) (value_in l (a + 1) b) (value_in l (b + 1) c)) Malformed ≡ Numbers m w n → Parts l a b c m w n
-    by true p e =
-        let x = and_true (separated_at l 0 a) _ p in
-        let y = and_true (separated_at l (a + 1) b) _ x.1 in
-        let z = and_true (one_to_five (c - (b + 1))) (eqb c (length l)) y.1 in
-        let f = five_true (c - (b + 1)) z.0 in
-        let em : value_in l 0 a ≡ m = cc in
-        let ew : value_in l (a + 1) b ≡ w = cc in
-        let en : value_in l (b + 1) c ≡ n = cc in
-        record {
-          first = separated_true l 0 a x.0;
-          second = separated_true l (a + 1) b y.0;
-          some = f.0;
-          most = f.1;
-          whole = eqb-true c (length l) z.1;
-          mcs = em;
-          width = ew;
-          count = en;
-        }
-    by false p e = let z : ◌≡◌ {A = ℕ} 0 1 = cc in absurd (omega arith)
+parts_of : (l : List ℕ) (a b c m w n : ℕ) → parsed_at l a b c ≡ Some (numbers m w n) → Parts l a b c m w n
+parts_of l a b c m w n e =
+    let (tests, same) = cond_some _ _ _ e in
+    let x = and_true (separated_at l 0 a) _ tests in
+    let y = and_true (separated_at l (a + 1) b) _ x.1 in
+    let z = and_true (one_to_five (c - (b + 1))) (eqb c (length l)) y.1 in
+    let f = five_true (c - (b + 1)) z.0 in
+    record {
+      first = separated_true l 0 a x.0;
+      second = separated_true l (a + 1) b y.0;
+      some = f.0;
+      most = f.1;
+      whole = eqb-true c (length l) z.1;
+      mcs = ap (λ (k : Numbers). k.mcs) same;
+      width = ap (λ (k : Numbers). k.width) same;
+      count = ap (λ (k : Numbers). k.length) same;
+    }
 
 -- ---- a line that is parsed is three numbers
 
@@ -170,7 +147,7 @@ three l a b c m w n ea eb ec p = record {
       (piece_split l (a + 1) b p.second ∙ ap (λ (x : List ℕ). piece l (a + 1) b ++ (32 ∷ x)) (piece_last l (b + 1) c p.whole));
 }
 
-parsed_three : (l : List ℕ) (m w n : ℕ) → parsed_of l ≡ Numbers m w n → ThreeNumbers l m w n
+parsed_three : (l : List ℕ) (m w n : ℕ) → parsed_of l ≡ Some (numbers m w n) → ThreeNumbers l m w n
 parsed_three l m w n e =
     let a = digits_end l 0 in
     let b = digits_end l (a + 1) in
@@ -233,7 +210,7 @@ read_last l from xs n e x =
           ∙ ap decimal_value (take_all (length xs) xs (omega arith)) ∙ x.value;
     }
 
-three_parsed : (l : List ℕ) (m w n : ℕ) → ThreeNumbers l m w n → parsed_of l ≡ Numbers m w n
+three_parsed : (l : List ℕ) (m w n : ℕ) → ThreeNumbers l m w n → parsed_of l ≡ Some (numbers m w n)
 three_parsed l m w n t =
     let a = 0 + length t.first in
     let b = a + 1 + length t.second in
@@ -245,7 +222,7 @@ three_parsed l m w n t =
     ∙ simp (x.separated, y.separated, z.size, z.whole, x.value, y.value, z.value)
 
 -- a line is parsed to three numbers exactly if it is those numbers, one space between
-pub parsed_exactly : (l : List ℕ) (m w n : ℕ) → (parsed_of l ≡ Numbers m w n) ↔ ThreeNumbers l m w n
+pub parsed_exactly : (l : List ℕ) (m w n : ℕ) → (parsed_of l ≡ Some (numbers m w n)) ↔ ThreeNumbers l m w n
 parsed_exactly l m w n = (parsed_three l m w n, three_parsed l m w n)
 
 -- ---- the numbers are small
@@ -258,29 +235,48 @@ number_below {xs} {n} x =
 pub parsed_small : (l : List ℕ) → FiveDigits (parsed_of l)
 parsed_small l = by (parsed_of l) refl
   where
-    by : (p : Parsed) → parsed_of l ≡ p → FiveDigits p
-    by (Numbers m w n) e =
-        let t = parsed_three l m w n e in
+    by : (p : Option Numbers) → parsed_of l ≡ p → FiveDigits p
+    by (Some n) e =
+        let t = parsed_three l n.mcs n.width n.length e in
         (number_below t.mcs, (number_below t.width, number_below t.length))
-    by Malformed e = tt
+    by None e = tt
 
 -- ---- the ways out of the code
 
+then_some_none : {A : Type 0} (b : Bool) (x : A) → then_some b x ≡ None → b ≡ false
+then_some_none true x e = absurd (none-some x (sym e))
+then_some_none false x e = refl
+
+then_some_some : {A : Type 0} (b : Bool) (x y : A) → then_some b x ≡ Some y → (b ≡ true) × (x ≡ y)
+then_some_some true x y e = (refl, (cond_some true x y e).1)
+then_some_some false x y e = absurd (none-some y e)
+
+pub answered : (l : List ℕ) (r : Option Numbers) → parsed_of l ≡ r → (r ≡ parsed_of l) × FiveDigits r
+answered l r e = (sym e, subst FiveDigits e (parsed_small l))
+
 module _ (l : List ℕ) (a : ℕ) (ea : a ≡ digits_end l 0) where
-  pub no_first : separated_at l 0 a ≡ false → (Malformed ≡ parsed_of l) × FiveDigits Malformed
-  no_first e = (sym (parsed_at_lem l a _ _ ea refl refl ∙ simp e), tt)
+  pub no_first : then_some (separated_at l 0 a) (value_in l 0 a) ≡ None → parsed_of l ≡ None
+  no_first e = parsed_at_lem l a _ _ ea refl refl ∙ simp (then_some_none _ _ e)
 
-  module _ (b : ℕ) (eb : b ≡ digits_end l (a + 1)) (first : separated_at l 0 a ≡ true) where
-    pub no_second : separated_at l (a + 1) b ≡ false → (Malformed ≡ parsed_of l) × FiveDigits Malformed
-    no_second e = (sym (parsed_at_lem l a b _ ea eb refl ∙ simp (first, e)), tt)
+  module _ (b : ℕ) (eb : b ≡ digits_end l (a + 1)) {m : ℕ} (first : then_some (separated_at l 0 a) (value_in l 0 a) ≡ Some m) where
+    pub no_second : then_some (separated_at l (a + 1) b) (value_in l (a + 1) b) ≡ None → parsed_of l ≡ None
+    no_second e = parsed_at_lem l a b _ ea eb refl ∙ simp ((then_some_some _ _ _ first).0, then_some_none _ _ e)
 
-    module _ (c : ℕ) (ec : c ≡ digits_end l (b + 1)) (second : separated_at l (a + 1) b ≡ true) where
-      pub no_third : (one_to_five (c - (b + 1)) && eqb c (length l)) ≡ false → (Malformed ≡ parsed_of l) × FiveDigits Malformed
-      no_third e = (sym (parsed_at_lem l a b c ea eb ec ∙ simp (first, second, e)), tt)
+    module _ (c : ℕ) (ec : c ≡ digits_end l (b + 1)) {w : ℕ}
+        (second : then_some (separated_at l (a + 1) b) (value_in l (a + 1) b) ≡ Some w) where
+      pub no_end : c ≢ length l → parsed_of l ≡ None
+      no_end e =
+          parsed_at_lem l a b c ea eb ec
+          ∙ simp ((then_some_some _ _ _ first).0, (then_some_some _ _ _ second).0, ne_eqb c (length l) e, and-false)
 
-      pub all_three : (x y z : ℕ) → (one_to_five (c - (b + 1)) && eqb c (length l)) ≡ true
-          → x ≡ value_in l 0 a → y ≡ value_in l (a + 1) b → z ≡ value_in l (b + 1) c
-          → (Numbers x y z ≡ parsed_of l) × FiveDigits (Numbers x y z)
-      all_three x y z e ex ey ez =
-          let k : parsed_of l ≡ Numbers x y z = parsed_at_lem l a b c ea eb ec ∙ simp (first, second, e, ex, ey, ez) in
-          (sym k, subst FiveDigits k (parsed_small l))
+      pub no_third : then_some (one_to_five (c - (b + 1))) (value_in l (b + 1) c) ≡ None → parsed_of l ≡ None
+      no_third e =
+          parsed_at_lem l a b c ea eb ec ∙ simp ((then_some_some _ _ _ first).0, (then_some_some _ _ _ second).0, then_some_none _ _ e)
+
+      pub all_three : {n : ℕ} → c ≡ length l → then_some (one_to_five (c - (b + 1))) (value_in l (b + 1) c) ≡ Some n
+          → parsed_of l ≡ Some (numbers m w n)
+      all_three e third =
+          let (f, m_is) = then_some_some _ _ _ first in
+          let (s, w_is) = then_some_some _ _ _ second in
+          let (t, n_is) = then_some_some _ _ _ third in
+          parsed_at_lem l a b c ea eb ec ∙ simp (f, s, t, eq-eqb c (length l) e, m_is, w_is, n_is)

@@ -1,12 +1,13 @@
 -- The numbers that decimal digits are. Assumes nothing.
-use mathlib.Core.Path.{◌≡◌, refl}
-use mathlib.Core.List.{List, [], ◌∷◌, ◌++◌}
-use Prim.Native.Nat.{ℕ, zero, suc, ◌+◌, ◌-◌, ◌*◌, ◌<◌, ◌≤◌}
-use native.Mathlib.Numerals.{add-one}
-use native.Mathlib.Omega.{arith}
-use lib.ListN.{length, get_or, take, drop}
-use lib.Seq.{drop-cons}
-use Rattle.parsing.specs.Parsing.{decimal_from, AllDigits}
+use Rattle.std.proofs.Common.{◌≡◌, refl, not, List, [], ◌∷◌, ◌++◌, ℕ, zero, suc, ◌+◌, ◌-◌, ◌*◌, ◌<◌, ◌≤◌}
+use Rattle.std.proofs.Common.{length, get_or, drop, drop-cons, add-one, arith}
+use Rattle.std.proofs.Math.Bool.{not-not}
+use Rattle.std.specs.Char.{is_ascii_digit}
+use Rattle.parsing.specs.Parsing.{is_digit, decimal_from, AllDigits}
+
+-- std's test for a digit is the definition's
+pub digit_by_std : (b : ℕ) → not (not (is_ascii_digit b)) ≡ is_digit b
+digit_by_std b = not-not (is_digit b)
 
 -- ten to a power
 unfoldable pub tens : ℕ → ℕ
@@ -50,19 +51,10 @@ value_below (x ∷ xs) m k a h =
     let e : 10 * k * tens (length xs) ≡ k * (10 * tens (length xs)) = omega arith in
     rw (tens_next, ← e) (value_below xs (10 * m + (x - 48)) (10 * k) a.1 (omega arith))
 
--- a turn of the loop that reads digits from i up to t, and its end
-module _ (l : List ℕ) (t i v : ℕ) {z : ℕ} where
-  pub value_next : i < t → t ≤ length l → decimal_from v (take (t - i) (drop i l)) ≡ z
-      → decimal_from (10 * v + (get_or l i 0 - 48)) (take (t - (i + 1)) (drop (i + 1) l)) ≡ z
-  value_next h k e =
-      let n : t - i ≡ suc (t - (i + 1)) = omega arith in
-      let p : i < length l = omega arith in
-      rw (n, drop-cons l i 0 p, ← add-one i) at e
-
-  pub value_ends : t ≤ i → decimal_from v (take (t - i) (drop i l)) ≡ z → v ≡ z
-  value_ends h e =
-      let n : t - i ≡ 0 = omega arith in
-      rw n at e
+-- a turn of the loop that reads digits
+pub value_next : (l : List ℕ) (i v : ℕ) {z : ℕ} → i < length l → decimal_from v (drop i l) ≡ z
+    → decimal_from (10 * v + (get_or l i 0 - 48)) (drop (i + 1) l) ≡ z
+value_next l i v h e = rw (drop-cons l i 0 h, ← add-one i) at e
 
 -- the bound that the loop keeps, whatever the bytes are
 pub value_room : (k v d : ℕ) → v + 23 ≤ 23 * tens k → d ≤ 207 → 10 * v + d + 23 ≤ 23 * tens (k + 1)

@@ -1,8 +1,8 @@
 -- "MCS, width, length: three numbers of one to five digits, one space between; else it prints `malformed`" (document 01, 'Checked by hand').
-use Rattle.std.specs.Prelude.{◌≡◌, Bool, cond, ◌&&◌, List, [], ◌∷◌, ◌++◌, ℕ, ◌+◌, ◌-◌, ◌*◌, ◌<◌, ◌≤◌, eqb, ltb, leb, length, get_or, take, drop}
+use Rattle.std.specs.Prelude.{◌≡◌, Bool, cond, ◌&&◌, Option, Some, None, List, [], ◌∷◌, ◌++◌, ℕ, ◌+◌, ◌-◌}
+use Rattle.std.specs.Prelude.{◌*◌, ◌<◌, ◌≤◌, eqb, ltb, leb, length, get_or, take, drop}
 use Rattle.laws.specs.Stretch.{stretch}
-use Rattle.parsing.specs.declared.numbers.Parsed.{Parsed}
-use Rattle.parsing.specs.declared.numbers.Parsed.TheVariants.{Numbers, Malformed}
+use Rattle.parsing.specs.declared.numbers.Numbers.{Numbers}
 
 -- 0 to 9 in ASCII
 abbrev pub is_digit : ℕ → Bool
@@ -30,15 +30,18 @@ digits_end l from = from + stretch is_digit (drop from l)
 abbrev pub value_in : List ℕ → ℕ → ℕ → ℕ
 value_in l from to = decimal_value (take (to - from) (drop from l))
 
--- a line whose digits end at a, at b behind a space, and at c behind another
-abbrev pub parsed_at : List ℕ → (a b c : ℕ) → Parsed
+abbrev pub numbers : (mcs width length : ℕ) → Numbers
+numbers m w n = record { mcs = m; width = w; length = n }
+
+-- a line whose digits end at a, at b behind a space, and at c behind another; None: malformed
+abbrev pub parsed_at : List ℕ → (a b c : ℕ) → Option Numbers
 parsed_at l a b c =
     cond (separated_at l 0 a && (separated_at l (a + 1) b && (one_to_five (c - (b + 1)) && eqb c (length l))))
-    (Numbers (value_in l 0 a) (value_in l (a + 1) b) (value_in l (b + 1) c))
-    Malformed
+    (Some (numbers (value_in l 0 a) (value_in l (a + 1) b) (value_in l (b + 1) c)))
+    None
 
 -- the digits at the front, a space, the digits behind it, a space, and digits to the end
-unfoldable pub parsed_of : List ℕ → Parsed
+unfoldable pub parsed_of : List ℕ → Option Numbers
 parsed_of l =
     let a = digits_end l 0 in
     let b = digits_end l (a + 1) in
@@ -46,9 +49,9 @@ parsed_of l =
     parsed_at l a b c
 
 -- the numbers of a parse have at most five digits
-abbrev pub FiveDigits : Parsed → Type 0
-FiveDigits (Numbers m w n) = (m < 100000) × ((w < 100000) × (n < 100000))
-FiveDigits Malformed = Unit {0}
+abbrev pub FiveDigits : Option Numbers → Type 0
+FiveDigits (Some n) = (n.mcs < 100000) × ((n.width < 100000) × (n.length < 100000))
+FiveDigits None = Unit {0}
 
 -- ---- the grammar, in the paper's words
 

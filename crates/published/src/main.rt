@@ -2,7 +2,7 @@
 // message (100 bytes, seed 93, 16-QAM at rate 3/4) the first 48 encoder inputs and the first 192 coded bits.
 #![tactic(auto)]
 
-ghost use Rattle.std.specs.Prelude.{◌≡◌, ◌+◌, ◌%◌, ◌≤◌, [], ◌∷◌, ◌++◌, length, take, drop, map, OnOk};
+ghost use Rattle.std.specs.Prelude.{◌+◌, ◌%◌, [], ◌∷◌, ◌++◌, map, OnOk};
 ghost use Rattle.std.specs.Io.KnownBytes.{Appends};
 
 use chain::plan::{MOST_CODED, MOST_LINE};
@@ -19,20 +19,12 @@ const MESSAGE: [u8; 100] = [
     114, 101, 100, 32, 119, 101, 32, 116, 114, 101, 97, 103, 51, 33, 182,
 ];
 
-fn digit(bit: u8) -> [u8; 1]
-    ensures { result ≡ (48 + bit % 2) ∷ [] }
-{
-    [48 + bit % 2]
-}
-
 // Bits as digits, ended by a line feed.
-fn print_bits<W: Write>(out: &mut W, bits: &[u8], from: usize, count: usize) -> io::Result<()>
-    requires { from + count ≤ length bits.now }
-    ensures { OnOk result (Appends (W.contents out.old) (W.contents out.new)
-        (map (λ b. 48 + b % 2) (take count (drop from bits.now)) ++ 10 ∷ [])) }
+fn print_bits<W: Write>(out: &mut W, bits: &[u8]) -> io::Result<()>
+    ensures { OnOk result (Appends (W.contents out.old) (W.contents out.new) (map (λ b. 48 + b % 2) bits.now ++ 10 ∷ [])) }
 {
-    for i in 0..count {
-        out.write_all(&digit(bits[from + i]))?;
+    for &bit in bits {
+        out.write_all(&[48 + bit % 2])?;
     }
     out.write_all(b"\n")
 }
@@ -41,12 +33,11 @@ fn main(rt: HostRuntime) -> io::Result<()> {
     let mut out = rt.stdout();
     let mut outputs = [0u8; 127];
     scrambler_outputs(&mut outputs, 127, 127);
-    print_bits(&mut out, &outputs, 0, 127)?;
-    let message = MESSAGE;
+    print_bits(&mut out, &outputs)?;
     let mut line = [0u8; MOST_LINE];
-    coder_inputs(&mut line, &message, 100, 1, 93, 0, 162);
-    print_bits(&mut out, &line, 6, 48)?;
+    coder_inputs(&mut line, &MESSAGE, 100, 1, 93, 0, 162);
+    print_bits(&mut out, &line[6..54])?;
     let mut coded = [0u8; MOST_CODED];
     coded_bits(&mut coded, &line, 1, 4, 52);
-    print_bits(&mut out, &coded, 0, 192)
+    print_bits(&mut out, &coded[..192])
 }

@@ -4,8 +4,10 @@ use Rattle.std.specs.Io.KnownBytes.{Appends}
 use Rattle.listing.proofs.ListingLaws.{rows_from}
 use Rattle.htsig.proofs.print_lines.Given as goal
 
-abbrev pub invariant-loop-start : goal.invariant-loop-start
-invariant-loop-start g l = (written : List ℕ) × (rows_from l.fn.input 0 ≡ written ++ rows_from l.fn.input l.at) × Appends (g.W.Write.contents l.fn.out) (g.W.Write.contents l.out) written
+abbrev pub invariant-loop-line : goal.invariant-loop-line
+invariant-loop-line g l =
+    (written : List ℕ) × (rows_from l.fn.input 0 ≡ written ++ rows_from l.fn.input l.at)
+    × Appends (g.W.Write.contents l.fn.out) (g.W.Write.contents l.out) written
 
-abbrev pub decreases-loop-start : goal.decreases-loop-start
-decreases-loop-start g l = length l.fn.input + 1 - l.at
+abbrev pub decreases-loop-line : goal.decreases-loop-line
+decreases-loop-line g l = length l.fn.input + 1 - l.at

@@ -4,11 +4,11 @@ use Rattle.std.proofs.lemmas.Result.{on_ok_weaker}
 use Rattle.htsig.proofs.Writing.{listing_written}
 use Rattle.htsig.proofs.print_listing.Goals as goal
 
-pub returns-then-refused : goal.returns-then-refused
-returns-then-refused g c =
-    on_ok_weaker c.write_all-then-refused.result
+pub returns-then-too_long : goal.returns-then-too_long
+returns-then-too_long g c =
+    on_ok_weaker c.write_all-then-too_long.result
     (λ written. listing_written _ _ _ _ _ c.args.input.now true (search rules) c.header.ensures c.too_long_text.ensures c.in_ok-write_all.ensures.bytes written)
-    c.write_all-then-refused.ensures.bytes
+    c.write_all-then-too_long.ensures.bytes
 
 pub returns : goal.returns
 returns g c =

@@ -1,5 +1,5 @@
--- The line that `coder_inputs` filled is one of bits.
-use Rattle.std.proofs.Common.{rules}
+-- The line that `coder_inputs` filled is one of bits, and the coded bits are as long as they were.
+use Rattle.std.proofs.Common.{rules, sym, length-take-le}
 use Rattle.laws.proofs.Filling.{fill_small}
 use Rattle.chain.proofs.InputLaws.{input_bit, line_bit}
 use Rattle.published.proofs.main.Goals as goal
@@ -15,3 +15,6 @@ coded_bits-requires c =
       near = search rules;
       bits = fill_small c.coder_inputs.ensures (λ e. line_bit _ (λ d. input_bit _ _ _ _ d) _ _);
     }
+
+pub slice_bounds-print_bits-end-3 : goal.slice_bounds-print_bits-end-3
+slice_bounds-print_bits-end-3 c = sym (length-take-le 192 c.coded_bits.new.coded (search rules))

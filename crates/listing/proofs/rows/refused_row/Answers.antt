@@ -1,6 +1,0 @@
--- `listing::rows::refused_row` meets its contract: the parts in their order. Assumes nothing.
-use Rattle.listing.proofs.RowLaws.{refused_pushed}
-use Rattle.listing.proofs.rows.refused_row.Goals as goal
-
-pub returns : goal.returns
-returns c = refused_pushed c.args.inputs _ _ _ _ c.args.r c.push_text-word.ensures c.number.ensures c.push_decimal.ensures.0 c.push.ensures

@@ -1,0 +1,21 @@
+-- The bytes that `digits_len` counts are the stretch of digits.
+use Rattle.std.proofs.Common.{◌≡◌, ◌∙◌, ap, not, length, arith, rules, tests}
+use Rattle.std.specs.Char.{is_ascii_digit}
+use Rattle.std.specs.List.{position}
+use Rattle.std.specs.Option.{unwrap_or}
+use Rattle.std.proofs.lemmas.Iterator.{YieldsList-from_slice}
+use Rattle.std.proofs.lemmas.Iterator.Search.{position_from_yields_List}
+use Rattle.laws.specs.Stretch.{stretch}
+use Rattle.laws.proofs.Stretches.{stretch_position, stretch_within}
+use Rattle.parsing.specs.Parsing.{is_digit}
+use Rattle.parsing.proofs.Values.{digit_by_std}
+use Rattle.parsing.proofs.numbers.digits_len.Goals as goal
+
+pub returns : goal.returns
+returns c =
+    let text = c.args.text.now in
+    let found : c.position.result ≡ position (λ b. not (is_ascii_digit b)) text =
+    position_from_yields_List _ _ _ _ c.position.ensures.ran (YieldsList-from_slice text cc) (λ x b q k. search (rules, tests)) in
+    let all : c.unwrap_or.result ≡ stretch is_digit text =
+    c.unwrap_or.ensures ∙ ap (λ o. unwrap_or o (length text)) found ∙ stretch_position _ is_digit digit_by_std text in
+    (all, omega (arith, all, stretch_within is_digit text))
