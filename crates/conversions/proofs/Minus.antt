@@ -1,4 +1,4 @@
--- A small number negated, and a number as it is, at 64 bits; what a result tells. Assumes nothing.
+-- A number as it is, at 64 bits; what a result tells. Assumes nothing.
 use mathlib.Core.Path.{◌≡◌, sym, ap, ◌∙◌, subst}
 use Prim.Native.Nat.{ℕ, zero, suc, ◌+◌, ◌*◌, ◌<◌, ◌≤◌}
 use native.Mathlib.Omega.{arith}
@@ -11,19 +11,6 @@ use Rattle.settings.proofs.SettingsLaws.{number_range}
 use Rattle.settings.specs.Settings.{number_of}
 use Rattle.laws.specs.Integers.{counted, minus}
 use Rattle.conversions.specs.Results.{refused_result}
-
-minus_is : (n : ℕ) → n < 16 → pos 0 -ℤ to_z w64 n ≡ minus n
-minus_is n h = ap (λ (z : ℤ). pos 0 -ℤ z) (to_z_pos w64 {n = n} (omega arith)) ∙ +ℤ_idl (minus n)
-
-small : (n : ℕ) → n < 16 → SFits w64 (minus n)
-small zero h = record { sfits = omega arith }
-small (suc k) h = record { sfits = omega arith }
-
-pub minus_fits : (n : ℕ) → n < 16 → SFits w64 (pos 0 -ℤ to_z w64 n)
-minus_fits n h = subst (SFits w64) (sym (minus_is n h)) (small n h)
-
-pub minus_back : (n : ℕ) → n < 16 → to_z w64 (of_z w64 (pos 0 -ℤ to_z w64 n)) ≡ minus n
-minus_back n h = to_z-of_z (minus_fits n h) ∙ minus_is n h
 
 pub pos_fits : (n : ℕ) → n < 268435456 → SFits w64 (pos n)
 pos_fits n h = record { sfits = omega arith }

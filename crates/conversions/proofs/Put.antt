@@ -28,8 +28,3 @@ two_put (a ∷ (b ∷ l)) x y h = refl
 pub carrier_refused : (x : Result Carried Refusal) (r : Refusal) (l : List Float) → x ≡ Err r
     → (refused_result r ≡ carrier_result x (length l)) × (l ≡ carrier_into x l)
 carrier_refused x r l e = (ap (λ (y : Result Carried Refusal). carrier_result y (length l)) (sym e), ap (λ (y : Result Carried Refusal). carrier_into y l) (sym e))
-
--- by the test of the room
-pub carrier_by : (x : Result Carried Refusal) (k : Carried) (l : List Float) (small : Bool) → x ≡ Ok k → ltb (length l) 2 ≡ small
-    → (cond small (refused_result Room) (pos (carried_number k)) ≡ carrier_result x (length l)) × (cond small l (carried_into k l) ≡ carrier_into x l)
-carrier_by x k l small e f = rw e (simp f, simp f)

@@ -3,7 +3,6 @@
 
 ghost use Rattle.std.specs.Prelude.{◌≡◌, ◌<◌, ◌≤◌, pos, length as length_of};
 ghost use Rattle.sig_words.specs.Words.{SigFits};
-ghost use Rattle.laws.specs.Integers.{minus};
 ghost use Rattle.conversions.specs.Results.{raw_of, refused_result, fields_number, carried_number, carried_into};
 
 use query::query::Carried;

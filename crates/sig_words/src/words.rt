@@ -16,13 +16,6 @@ pub struct SigFields {
     pub short_guard: bool,
 }
 
-// A flag as a bit.
-pub fn one(b: bool) -> u64
-    ensures { (result ≡ one_if b) × (result ≤ 1) }
-{
-    if b { 1 } else { 0 }
-}
-
 // Bits 0 to 33.
 fn head_word(g: SigFields) -> u64
     requires { SigFits g }

@@ -77,10 +77,3 @@ pub fn label_sources(table: &mut [u16], plan: Plan)
         _ => parse::<3, 2>(table, streams, plan.block),
     }
 }
-
-// An entry of the table as a place.
-pub fn source_index(entry: u16) -> usize
-    ensures { result ≡ entry }
-{
-    entry as usize
-}

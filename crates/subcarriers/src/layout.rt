@@ -53,13 +53,6 @@ const RUNS_40: [(usize, usize, usize, Option<usize>); 8] = [
     (109, 103, 5, None),
 ];
 
-// An entry of a table as a number of places.
-pub fn entry_index(entry: u8) -> usize
-    ensures { result ≡ entry }
-{
-    entry as usize
-}
-
 // Run r of a stream's places.
 pub fn run_of(width: usize, r: usize) -> Run
     requires { r < 2 * half_runs width }
