@@ -1,5 +1,5 @@
 // The subcarriers' uses (document 01 step 7).
-ghost use Rattle.std.specs.Prelude.{◌≡◌, ◌*◌, ◌<◌, T, pos, ◌-ℤ◌};
+ghost use Rattle.std.specs.Prelude.{◌≡◌, ◌*◌, ◌<◌, T};
 ghost use Rattle.laws.specs.Test.{among};
 ghost use Rattle.chain.specs.Plan.{widths};
 ghost use Rattle.subcarriers.specs.Subcarriers.{used_subcarriers, place_found, use_of, places_of, subcarrier_at, subcarrier_from, outside};
@@ -138,15 +138,7 @@ fn use_at(width: usize, f: usize) -> Use
     unreachable!()
 }
 
-// A place less a number of places, below 0 where it is more.
-fn places_from(f: usize, k: usize) -> i32
-    requires { (f < 114) × (k < 64) }
-    ensures { result ≡ pos f -ℤ pos k }
-{
-    f as i32 - k as i32
-}
-
-// The subcarrier at place f, by its own number: as many below the place for all places below 0, and for all above it.
+// The subcarrier at place f, by its own number: so much less than the place, below 0 and above it.
 pub fn subcarrier_of(width: usize, f: usize) -> i32
     requires t { T (among widths width) }
     requires f_bound { f < places_of width }
@@ -157,7 +149,8 @@ pub fn subcarrier_of(width: usize, f: usize) -> i32
     } else {
         (28, 28, 27)
     };
-    places_from(f, if f < half { below } else { above })
+    let shift = if f < half { below } else { above };
+    f as i32 - shift
 }
 
 // What a subcarrier of the channel is used for.
