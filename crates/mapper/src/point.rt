@@ -1,5 +1,5 @@
 // Points from half labels (document 01 step 6), and the quarter turn of step 8.
-ghost use Rattle.std.specs.Prelude.{◌≡◌, ◌+◌, ◌<◌, ◌≤◌, T, length, get_or};
+ghost use Rattle.std.specs.Prelude.{◌≡◌, ◌+◌, ◌≤◌, T, length, get_or};
 ghost use Rattle.std.specs.Float.{nan};
 ghost use Rattle.laws.specs.Test.{among};
 ghost use Rattle.laws.specs.Filled.{Filled};
@@ -14,8 +14,8 @@ pub struct Point {
     pub second: f32,
 }
 
-// The levels of one, two and three bits of an axis, by their label with the first bit highest.
-const LEVELS: [[f32; 8]; 3] = [
+// The levels of one, two and three bits of an axis, by their label with the first bit highest. A static: a read takes one row of it.
+static LEVELS: [[f32; 8]; 3] = [
     [-1.0, 1.0, 0.0, 0.0, 0.0, 0.0, 0.0, 0.0],
     [-3.0, -1.0, 3.0, 1.0, 0.0, 0.0, 0.0, 0.0],
     [-7.0, -5.0, -1.0, -3.0, 7.0, 5.0, 1.0, 3.0],

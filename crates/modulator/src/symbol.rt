@@ -3,7 +3,7 @@ ghost use Rattle.std.specs.Prelude.{◌≡◌, ◌*◌, ◌<◌};
 ghost use Rattle.std.specs.Float.{nan};
 ghost use Rattle.laws.specs.Filled.{Filled};
 ghost use Rattle.chain.specs.Labels.{halves_of};
-ghost use Rattle.mapper.specs.Levels.{whole, carrier_levels, point_of};
+ghost use Rattle.mapper.specs.Levels.{carrier_levels, point_of};
 ghost use Rattle.mapper.specs.Mapped.{PointAsked};
 ghost use Rattle.subcarriers.specs.Runs.{half_runs};
 ghost use Rattle.modulator.specs.Symbol.{turned_if, stream_floats, symbol_float};

@@ -8,9 +8,9 @@ use scrambler::register::{jump, output_of};
 
 // Tables 11 and 12: for one stream, two, three and four, the row of each stream, then 0.
 // Bit k of a row is 1 where value k is a minus sign.
-const MINUS_20: [[u8; 4]; 4] = [[8, 0, 0, 0], [12, 6, 0, 0], [12, 10, 9, 0], [8, 4, 2, 1]];
+static MINUS_20: [[u8; 4]; 4] = [[8, 0, 0, 0], [12, 6, 0, 0], [12, 10, 9, 0], [8, 4, 2, 1]];
 
-const MINUS_40: [[u8; 4]; 4] = [
+static MINUS_40: [[u8; 4]; 4] = [
     [24, 0, 0, 0],
     [60, 8, 0, 0],
     [60, 8, 26, 0],

@@ -120,6 +120,10 @@ pilot_counts n q p e = rw e
 pub none_counts : (n : ℕ) (p : Option ℕ) → p ≡ None → n + cond (is_some p) 1 0 ≡ n
 none_counts n p e = rw e (omega arith)
 
+pub counts_most : (n : ℕ) (p : Option ℕ) → n + cond (is_some p) 1 0 ≤ n + 1
+counts_most n None = omega arith
+counts_most n (Some q) = omega arith
+
 -- a run's carriers are few
 pub carrier_few : (width : ℕ) → T (among widths width) → (run : Run) → RunRight width run → (k : ℕ) → k < run.count → run.carrier + k < 108
 carrier_few width h run right k l = omega (arith, right.carriers_inside, carriers_few width)
@@ -149,8 +153,8 @@ module _ (width r : ℕ) (run : Run) (told : run ≡ run_of width r) (h : T (amo
   pub run_begins : run_start width r ≡ run.place
   run_begins = start_place width (runs_right width h) r l ∙ sym (ap (λ (x : Run). x.place) told)
 
-  pub run_ends : run_start width (r + 1) ≡ run_end run
-  run_ends = start_next width r ∙ sym (ap run_end told)
+  pub run_ends : (next : ℕ) → next ≡ r + 1 → run_start width next ≡ run_end run
+  run_ends next e = ap (run_start width) e ∙ start_next width r ∙ sym (ap run_end told)
 
 -- what the places of a run are used for
 module _ (width f : ℕ) (run : Run) (right : RunRight width run) where

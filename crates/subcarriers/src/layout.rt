@@ -1,5 +1,5 @@
 // The subcarriers' uses (document 01 step 7).
-ghost use Rattle.std.specs.Prelude.{◌≡◌, ◌*◌, ◌<◌, ◌≤◌, T, pos, ◌-ℤ◌};
+ghost use Rattle.std.specs.Prelude.{◌≡◌, ◌*◌, ◌<◌, T};
 ghost use Rattle.laws.specs.Test.{among};
 ghost use Rattle.chain.specs.Plan.{widths};
 ghost use Rattle.subcarriers.specs.Subcarriers.{used_subcarriers, place_found, use_of, places_of, subcarrier_at, subcarrier_from, outside};
@@ -33,7 +33,8 @@ pub fn is_outside(width: usize, subcarrier: i32) -> bool
 }
 
 // The runs below 0 and then those above: the first place, the first data carrier, the number of carriers, the pilot after them.
-const RUNS_20: [(usize, usize, usize, Option<usize>); 6] = [
+// A static, of which a read takes one row: the array of a const would be built for each.
+static RUNS_20: [(usize, usize, usize, Option<usize>); 6] = [
     (0, 0, 7, Some(0)),
     (8, 7, 13, Some(1)),
     (22, 20, 6, None),
@@ -42,7 +43,7 @@ const RUNS_20: [(usize, usize, usize, Option<usize>); 6] = [
     (49, 45, 7, None),
 ];
 
-const RUNS_40: [(usize, usize, usize, Option<usize>); 8] = [
+static RUNS_40: [(usize, usize, usize, Option<usize>); 8] = [
     (0, 0, 5, Some(0)),
     (6, 5, 27, Some(1)),
     (34, 32, 13, Some(2)),
@@ -111,36 +112,26 @@ pub fn runs_of(width: usize) -> usize
     if width == 40 { 8 } else { 6 }
 }
 
-// What the subcarrier at place f is used for.
+// What the subcarrier at place f is used for: a carrier of the last run that begins there or before, or the pilot after it.
 fn use_at(width: usize, f: usize) -> Use
     requires t { T (among widths width) }
     requires f_bound { f < places_of width }
     ensures { result ≡ use_of width (subcarrier_at width f) }
 {
-    for r in 0..runs_of(width) {
+    for r in (0..runs_of(width)).rev() {
         let run = run_of(width, r);
-        let end = run.place + run.count;
-        if f < end {
-            return Use::Data(run.carrier + (f - run.place));
-        }
-        if let Some(pilot) = run.pilot
-            && f == end
-        {
-            return Use::Pilot(pilot);
+        if run.place <= f {
+            let k = f - run.place;
+            return match run.pilot {
+                Some(pilot) if k >= run.count => Use::Pilot(pilot),
+                _ => Use::Data(run.carrier + k),
+            };
         }
     }
     unreachable!()
 }
 
-// A place less a number of places, below 0 where it is more.
-fn places_from(f: usize, k: usize) -> i32
-    requires { (f < 114) × (k < 64) }
-    ensures { result ≡ pos f -ℤ pos k }
-{
-    f as i32 - k as i32
-}
-
-// The subcarrier at place f, by its own number: as many below the place for all places below 0, and for all above it.
+// The subcarrier at place f, by its own number: so much less than the place, below 0 and above it.
 pub fn subcarrier_of(width: usize, f: usize) -> i32
     requires t { T (among widths width) }
     requires f_bound { f < places_of width }
@@ -151,7 +142,8 @@ pub fn subcarrier_of(width: usize, f: usize) -> i32
     } else {
         (28, 28, 27)
     };
-    places_from(f, if f < half { below } else { above })
+    let shift = if f < half { below } else { above };
+    f as i32 - shift
 }
 
 // What a subcarrier of the channel is used for.
