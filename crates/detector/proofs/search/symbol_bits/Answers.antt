@@ -43,6 +43,7 @@ returns-clause-value c = (answer_all c.args.plan c.args.points.now c.args.format
 pub returns-then-not-hear_place : goal.returns-then-not-hear_place
 returns-then-not-hear_place c =
     let r = answer_at_lem c.args.plan c.args.points.now c.args.format c.args.n c.requires.fits c.loop-i.i c.loop-f.f _ c.loop-f.bits _
-    c.loop-i-test.true (omega (arith, c.loop-f-test.true, c.places_of-places.ensures)) (c.loop-f.invariant c.args.bits.now c.loop-i.invariant)
+    c.loop-i-test.true (omega (arith, c.loop-f-test.true, c.places_of-places.ensures))
+    (c.loop-f.invariant c.args.bits.now c.loop-i.invariant)
     c.hear_place.ensures.heard (sym (c.hear_place.ensures.given c.args.format c.polarity_bit.ensures.0) ∙ c.if-not-hear_place.true) in
     record { value = r.0; bits_shown = r.1 }
