@@ -9,8 +9,8 @@ hear_data-requires c = let h = c.args.self.now in
 
 pub returns-then-used-lt128 : goal.returns-then-used-lt128
 returns-then-used-lt128 c =
-    let r = heard_data c.args.self.now c.requires c.from-used.result c.from-used.ensures _ (ap (λ (k : ℕ). 2 * k) c.places_of-floats.ensures) _
-    c.is_turned-turned.ensures _ _ c.if-used-lt128.true c.hear_data.ensures in
+    let r = heard_data c.args.self.now c.requires c.from-used.result c.from-used.ensures _
+    (ap (λ (k : ℕ). 2 * k) c.places_of-floats.ensures) _ c.is_turned-turned.ensures _ _ c.if-used-lt128.true c.hear_data.ensures in
     record { given = r.0; heard = r.1 }
 
 pub pilot_sign-sign-requires : goal.pilot_sign-sign-requires
@@ -22,6 +22,7 @@ pilot_sign-sign-requires c = let h = c.args.self.now in
 
 pub returns : goal.returns
 returns c =
-    let r = heard_pilot c.args.self.now c.requires c.from-used.result c.from-used.ensures _ (ap (λ (k : ℕ). 2 * k) c.places_of-floats.ensures) _
-    c.is_turned-turned.ensures _ _ c.if-used-lt128.false c.pilot_sign-sign.ensures c.hear_pilot.ensures in
+    let r = heard_pilot c.args.self.now c.requires c.from-used.result c.from-used.ensures _
+    (ap (λ (k : ℕ). 2 * k) c.places_of-floats.ensures) _ c.is_turned-turned.ensures _ _
+    c.if-used-lt128.false c.pilot_sign-sign.ensures c.hear_pilot.ensures in
     record { given = r.0; heard = r.1 }
