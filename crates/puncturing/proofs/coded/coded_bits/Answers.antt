@@ -27,7 +27,7 @@ pick-requires c =
       room = simp length-take (omega (arith, read w, fits w, c.places_at.ensures.same));
       sized = c.both_sums.ensures.same;
       second = omega arith;
-      inside = inside w 0 (omega (arith, sizes c.requires));
+      inside = inside w _ (omega (arith, sizes c.requires));
     }
 
 -- the first encoder's bits are as many
@@ -42,7 +42,7 @@ pick-requires-then-encoders-eq2 c = let p = c.requires in
       room = grind (arith, common_steps, first w, read v, (sizes p).halved c.if-encoders-eq2.true, p.room);
       sized = c.both_sums.ensures.same;
       second = omega arith;
-      inside = inside v 1 (omega arith);
+      inside = inside v _ (omega arith);
     }
 
 pub returns-then-encoders-eq2 : goal.returns-then-encoders-eq2
@@ -54,8 +54,8 @@ returns-then-encoders-eq2 c = let p = c.requires in
     let half = (sizes p).halved c.if-encoders-eq2.true in
     let second : length c.pick-then-encoders-eq2.new.coded ≡ c.args.kept * c.args.groups =
     grind (arith, common_steps, first w, half, p.room, c.pick-then-encoders-eq2.ensures.same) in
-    let these = picked _ _ _ _ _ p s t 0 0 (omega (arith, sizes p)) (omega arith) (read v) c.pick.ensures in
-    let those = picked _ _ _ _ _ p s t 1 1 (omega arith) (omega arith) (read v) c.pick-then-encoders-eq2.ensures in
+    let these = picked _ _ _ _ _ p s t 0 _ (omega (arith, sizes p)) (omega arith) (read v) c.pick.ensures in
+    let those = picked _ _ _ _ _ p s t 1 _ (omega arith) (omega arith) (read v) c.pick-then-encoders-eq2.ensures in
     two_coded _ _ _ _ _ p c.if-encoders-eq2.true
     (stored_first _ _ _ _ (first w) these (fits v))
     (stored_from _ _ _ _ second those _ _ (omega arith) (grind (arith, common_steps, first w, half, p.room)))
@@ -66,5 +66,5 @@ returns-else-encoders-eq2 c = let p = c.requires in
     let w = (goal.at.returns-else-encoders-eq2 c).After-pick in
     let s = c.both_sums.ensures in
     let t = c.places_at.ensures in
-    let these = picked _ _ _ _ _ p s t 0 0 (omega (arith, sizes p)) (omega arith) (read v) c.pick.ensures in
+    let these = picked _ _ _ _ _ p s t 0 _ (omega (arith, sizes p)) (omega arith) (read v) c.pick.ensures in
     one_coded _ _ _ _ _ p ((sizes p).otherwise c.if-encoders-eq2.false) (stored_first _ _ _ _ (first w) these (fits v))
