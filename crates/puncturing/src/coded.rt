@@ -11,7 +11,11 @@ fn sum_place<const KEPT: u16>(encoders: u16, y: u16) -> u16
     requires { PlaceAsked KEPT encoders y }
     ensures { result ≡ sum_place KEPT encoders y }
 {
-    y % KEPT % 2 * 2160 + encoders * ((KEPT - 1) * (y / KEPT) + (y % KEPT).saturating_sub(1))
+    // A group of an even number of bits leaves each its parity.
+    if KEPT % 2 == 0 {
+        return y % 2 * 2160 + encoders * (y * (KEPT - 1) / KEPT);
+    }
+    y % KEPT % 2 * 2160 + encoders * (y - (y + KEPT - 1) / KEPT)
 }
 
 fn sum_places<const KEPT: u16>(places: &mut [u16], encoders: u16, count: u16)

@@ -1,4 +1,4 @@
--- Many steps of the scrambler at once: up to four by moving the stages, and powers of two by xor of few. Computed claims over the 128 states.
+-- Many steps of the scrambler at once: up to four by moving the stages, and powers of two by xor of few. Computed over the 128 states.
 use Rattle.std.proofs.Common.{◌≡◌, ◌∙◌, sym, ap, ℕ, ◌+◌, ◌-◌, ◌*◌, ◌/◌, ◌%◌, ◌^◌, ◌<◌, ◌≤◌, arith}
 use Rattle.std.specs.Int.Bits.{bit_xor}
 use Rattle.std.proofs.lemmas.Nat.{mod-pow-add}

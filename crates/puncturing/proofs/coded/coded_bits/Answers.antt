@@ -1,11 +1,11 @@
 -- `coded_bits`: the bits picked from the sums by their places are the coded bits.
-use Rattle.std.proofs.Common.{◌≡◌, ◌∙◌, ◌*◌, ◌≤◌, length, take, length-take, get_or-take, ◌<◌, arith}
+use Rattle.std.proofs.Common.{◌≡◌, ◌∙◌, ℕ, ◌+◌, ◌*◌, ◌<◌, ◌≤◌, length, get_or, take, length-take, get_or-take, arith}
 use Rattle.std.proofs.lemmas.Grind.{common_steps}
 use Rattle.puncturing.proofs.CodedLaws.{sizes, place_inside, picked, stored_first, stored_from, one_coded, two_coded}
 use Rattle.puncturing.proofs.coded.coded_bits.Goals as goal
-use Rattle.puncturing.proofs.coded.coded_bits.Goals.{After-pick}
+use Rattle.puncturing.proofs.coded.coded_bits.Goals.{After-places_at, After-pick}
 
-module _ (c : After-pick) where
+module _ (c : After-places_at) where
   -- the places that are read are as many as an encoder's bits
   read : length (take (c.args.kept * c.args.groups) c.places_at.new.places) ≡ c.args.kept * c.args.groups
   read = simp length-take (omega (arith, sizes c.requires, c.places_at.ensures.same))
@@ -13,38 +13,58 @@ module _ (c : After-pick) where
   fits : c.args.kept * c.args.groups ≤ length c.args.coded.now
   fits = omega (arith, sizes c.requires, c.requires.room)
 
-  -- and so are the first encoder's bits
-  first : length c.pick.new.coded ≡ c.args.kept * c.args.groups
-  first = c.pick.ensures.same ∙ simp length-take (omega (arith, fits))
+  -- and lie among the sums
+  inside : (j : ℕ) → j < c.args.encoders → (y : ℕ) → y < length (take (c.args.kept * c.args.groups) c.places_at.new.places)
+      → get_or (take (c.args.kept * c.args.groups) c.places_at.new.places) y 0 + j < 4320
+  inside j mine y l =
+      let few : y < c.args.kept * c.args.groups = omega (arith, read) in
+      rw get_or-take (place_inside _ _ _ _ _ c.requires c.places_at.ensures j mine y few)
+
+pub pick-requires : goal.pick-requires
+pick-requires c =
+    let w = (goal.at.pick-requires c).After-places_at in
+    record {
+      room = simp length-take (omega (arith, read w, fits w, c.places_at.ensures.same));
+      sized = c.both_sums.ensures.same;
+      second = omega arith;
+      inside = inside w _ (omega (arith, sizes c.requires));
+    }
+
+-- the first encoder's bits are as many
+first : (c : After-pick) → length c.pick.new.coded ≡ c.args.kept * c.args.groups
+first c = c.pick.ensures.same ∙ simp length-take (omega (arith, sizes c.requires, c.requires.room))
 
 pub pick-requires-then-encoders-eq2 : goal.pick-requires-then-encoders-eq2
 pick-requires-then-encoders-eq2 c = let p = c.requires in
+    let v = (goal.at.pick-requires-then-encoders-eq2 c).After-places_at in
     let w = (goal.at.pick-requires-then-encoders-eq2 c).After-pick in
     record {
-      room = grind (arith, common_steps, first w, read w, (sizes p).halved c.if-encoders-eq2.true, p.room);
+      room = grind (arith, common_steps, first w, read v, (sizes p).halved c.if-encoders-eq2.true, p.room);
       sized = c.both_sums.ensures.same;
       second = omega arith;
-      inside = λ y l.
-          let few : y < c.args.kept * c.args.groups = omega (arith, read w) in
-          rw get_or-take (place_inside _ _ _ _ _ p c.places_at.ensures 1 (omega arith) y few);
+      inside = inside v _ (omega arith);
     }
 
 pub returns-then-encoders-eq2 : goal.returns-then-encoders-eq2
 returns-then-encoders-eq2 c = let p = c.requires in
+    let v = (goal.at.returns-then-encoders-eq2 c).After-places_at in
     let w = (goal.at.returns-then-encoders-eq2 c).After-pick in
     let s = c.both_sums.ensures in
     let t = c.places_at.ensures in
     let half = (sizes p).halved c.if-encoders-eq2.true in
     let second : length c.pick-then-encoders-eq2.new.coded ≡ c.args.kept * c.args.groups =
     grind (arith, common_steps, first w, half, p.room, c.pick-then-encoders-eq2.ensures.same) in
-    let these = picked _ _ _ _ _ p s t 0 0 (omega (arith, sizes p)) (omega arith) (read w) c.pick.ensures in
-    let those = picked _ _ _ _ _ p s t 1 1 (omega arith) (omega arith) (read w) c.pick-then-encoders-eq2.ensures in
+    let these = picked _ _ _ _ _ p s t 0 _ (omega (arith, sizes p)) (omega arith) (read v) c.pick.ensures in
+    let those = picked _ _ _ _ _ p s t 1 _ (omega arith) (omega arith) (read v) c.pick-then-encoders-eq2.ensures in
     two_coded _ _ _ _ _ p c.if-encoders-eq2.true
-    (stored_first _ _ _ _ (first w) these (fits w))
+    (stored_first _ _ _ _ (first w) these (fits v))
     (stored_from _ _ _ _ second those _ _ (omega arith) (grind (arith, common_steps, first w, half, p.room)))
 
 pub returns-else-encoders-eq2 : goal.returns-else-encoders-eq2
 returns-else-encoders-eq2 c = let p = c.requires in
+    let v = (goal.at.returns-else-encoders-eq2 c).After-places_at in
     let w = (goal.at.returns-else-encoders-eq2 c).After-pick in
-    let these = picked _ _ _ _ _ p c.both_sums.ensures c.places_at.ensures 0 0 (omega (arith, sizes p)) (omega arith) (read w) c.pick.ensures in
-    one_coded _ _ _ _ _ p ((sizes p).otherwise c.if-encoders-eq2.false) (stored_first _ _ _ _ (first w) these (fits w))
+    let s = c.both_sums.ensures in
+    let t = c.places_at.ensures in
+    let these = picked _ _ _ _ _ p s t 0 _ (omega (arith, sizes p)) (omega arith) (read v) c.pick.ensures in
+    one_coded _ _ _ _ _ p ((sizes p).otherwise c.if-encoders-eq2.false) (stored_first _ _ _ _ (first w) these (fits v))

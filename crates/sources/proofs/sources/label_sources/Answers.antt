@@ -31,17 +31,17 @@ module _ (c : After-axis_bits) where
   two : (c.args.plan.encoders ≡ 1 → ⊥) → c.args.plan.encoders ≡ 2
   two = encoders_not_one _ c.requires.fits.encoders
 
-  -- what the parser is given, by the numbers that an arm has
-  asked : {s e : ℕ} → c.axis_bits.result ≡ s → c.args.plan.encoders ≡ e
+  -- what the parser is given, of any axis and number of encoders
+  asked : (s e : ℕ) → T (among axis_counts s) → T (among encoder_counts e)
       → ParseAsked c.sources_at.new.table s c.args.plan.streams e c.args.plan.block
-  asked bits encoders =
+  asked s e hs he =
       let p = c.args.plan in
       let f = c.requires.fits in
       let t = c.sources_at.ensures in
       record {
-        axis = subst (λ (s : ℕ). T (among axis_counts s)) bits axis;
+        axis = hs;
         few_streams = (small p f).streams;
-        one_or_two = subst (λ (e : ℕ). T (among encoder_counts e)) encoders f.encoders;
+        one_or_two = he;
         few = (small p f).block;
         room = omega (arith, t.same, c.requires.room);
         inside = λ r h.
@@ -57,28 +57,22 @@ module _ (c : After-axis_bits) where
   tabled bits encoders = parsed_table c.args.plan c.requires.fits (sym c.axis_bits.ensures ∙ bits) encoders c.sources_at.ensures
 
 pub parse-requires : goal.parse-requires
-parse-requires c = let w = (goal.at.parse-requires c).After-axis_bits in
-    asked w c.in-1-eq1.is-0 c.in-1-eq1.is-1
+parse-requires c = asked (goal.at.parse-requires c).After-axis_bits _ _ tt tt
 
 pub parse-requires-in-2-eq1 : goal.parse-requires-in-2-eq1
-parse-requires-in-2-eq1 c = let w = (goal.at.parse-requires-in-2-eq1 c).After-axis_bits in
-    asked w c.in-2-eq1.is-0 c.in-2-eq1.is-1
+parse-requires-in-2-eq1 c = asked (goal.at.parse-requires-in-2-eq1 c).After-axis_bits _ _ tt tt
 
 pub parse-requires-in_default-eq1 : goal.parse-requires-in_default-eq1
-parse-requires-in_default-eq1 c = let w = (goal.at.parse-requires-in_default-eq1 c).After-axis_bits in
-    asked w (three w c.in_default-eq1.is-0.0.1 c.in_default-eq1.is-0.1) c.in_default-eq1.is-1
+parse-requires-in_default-eq1 c = asked (goal.at.parse-requires-in_default-eq1 c).After-axis_bits _ _ tt tt
 
 pub parse-requires-in-1-default : goal.parse-requires-in-1-default
-parse-requires-in-1-default c = let w = (goal.at.parse-requires-in-1-default c).After-axis_bits in
-    asked w c.in-1-default.is-0 (two w c.in-1-default.is-1.1)
+parse-requires-in-1-default c = asked (goal.at.parse-requires-in-1-default c).After-axis_bits _ _ tt tt
 
 pub parse-requires-in-2-default : goal.parse-requires-in-2-default
-parse-requires-in-2-default c = let w = (goal.at.parse-requires-in-2-default c).After-axis_bits in
-    asked w c.in-2-default.is-0 (two w c.in-2-default.is-1.1)
+parse-requires-in-2-default c = asked (goal.at.parse-requires-in-2-default c).After-axis_bits _ _ tt tt
 
 pub parse-requires-in_default : goal.parse-requires-in_default
-parse-requires-in_default c = let w = (goal.at.parse-requires-in_default c).After-axis_bits in
-    asked w (three w c.in_default.is-0.0.1 c.in_default.is-0.1) (two w c.in_default.is-1.1)
+parse-requires-in_default c = asked (goal.at.parse-requires-in_default c).After-axis_bits _ _ tt tt
 
 pub returns-in-1-eq1 : goal.returns-in-1-eq1
 returns-in-1-eq1 c = let w = (goal.at.returns-in-1-eq1 c).After-axis_bits in
