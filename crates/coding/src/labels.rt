@@ -47,7 +47,8 @@ impl StreamBits<'_> {
     // Half labels from one of them on.
     fn put(&self, halves: &mut [u8], from: usize)
         requires { HalfRunAsked halves.old self.now.coded.now self.now.table.now self.now.axis self.now.shift from }
-        ensures { Filled 0 0 (λ m. half_at self.now.coded.now self.now.table.now self.now.axis self.now.shift (from + m)) (length halves.old) halves.old halves.new }
+        ensures { Filled 0 0 (λ m. half_at self.now.coded.now self.now.table.now self.now.axis self.now.shift (from + m))
+            (length halves.old) halves.old halves.new }
     {
         for m in 0..halves.len() {
             halves[m] = self.half(from + m);

@@ -1,5 +1,5 @@
 // The encoders' input line from any place on: histories, service, payload, tail and pad.
-ghost use Rattle.std.specs.Prelude.{◌+◌, ◌≤◌, length, get_or};
+ghost use Rattle.std.specs.Prelude.{◌+◌, length, get_or};
 ghost use Rattle.laws.specs.Filled.{Filled};
 ghost use Rattle.chain.specs.DataBits.{payload_bit, coder_input};
 ghost use Rattle.chain.specs.Encoder.{with_history};

@@ -1,9 +1,8 @@
 -- `half_labels`: the line of inputs, its coded bits and their half labels, one from the other.
-use native.Mathlib.Omega.{arith}
+use Rattle.std.proofs.Common.{arith, rules}
 use Rattle.laws.proofs.Filling.{fill_small}
 use Rattle.chain.proofs.InputLaws.{input_bit, line_bit}
 use Rattle.coding.proofs.CallLaws.{sizes, halves_are}
-use borrow.Author.Rules.{rules}
 use Rattle.coding.proofs.labels.half_labels.Goals as goal
 
 pub overflow_add-inputs : goal.overflow_add-inputs
