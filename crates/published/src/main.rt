@@ -5,7 +5,7 @@
 ghost use Rattle.std.specs.Prelude.{◌≡◌, ◌+◌, ◌%◌, ◌≤◌, [], ◌∷◌, ◌++◌, length, take, drop, map, OnOk};
 ghost use Rattle.std.specs.Io.KnownBytes.{Appends};
 
-use chain::plan::{MOST_CODED, MOST_LINE};
+use chain::plan::MOST_CODED;
 use inputs::line::coder_inputs;
 use puncturing::coded::coded_bits;
 use scrambler::outputs::scrambler_outputs;
@@ -43,8 +43,8 @@ fn main(rt: HostRuntime) -> io::Result<()> {
     scrambler_outputs(&mut outputs, 127, 127);
     print_bits(&mut out, &outputs, 0, 127)?;
     let message = MESSAGE;
-    let mut line = [0u8; MOST_LINE];
-    coder_inputs(&mut line, &message, 100, 1, 93, 0, 162);
+    let mut line = [0u8; 162];
+    coder_inputs(&mut line, &message, 1, 93, 0);
     print_bits(&mut out, &line, 6, 48)?;
     let mut coded = [0u8; MOST_CODED];
     coded_bits(&mut coded, &line, 1, 4, 52);
