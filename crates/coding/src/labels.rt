@@ -122,7 +122,8 @@ pub fn groups_of(plan: Plan) -> usize
 // The half labels of symbol n of a frame: half m of stream i at i·count + m, with count halves a stream.
 pub fn half_labels(halves: &mut [u8], payload: &[u8], seed: u8, plan: Plan, n: usize)
     requires { LabelsAsked halves.old payload.now seed plan n }
-    ensures { HalvesFilled plan (half_label plan (coder_input (payload_bit payload.now) (length payload.now) plan.encoders seed) n) plan.streams halves.old halves.new }
+    ensures { HalvesFilled plan (half_label plan (coder_input (payload_bit payload.now) (length payload.now) plan.encoders seed) n)
+        plan.streams halves.old halves.new }
 {
     let mut line = [0u8; MOST_LINE];
     let mut coded = [0u8; MOST_CODED];

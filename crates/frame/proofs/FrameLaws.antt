@@ -16,7 +16,7 @@ use Rattle.settings.specs.Settings.{plan_for, Right}
 use Rattle.symbols.specs.Symbols.{symbols_of}
 use Rattle.settings.proofs.SettingsLaws.{plan_fits}
 use Rattle.symbols.proofs.CountLaws.{symbols_few}
-use Rattle.frame.specs.Points.{input_of, labels_of, floats_of}
+use Rattle.frame.specs.Points.{input_of, floats_of}
 use Rattle.frame.specs.Asked.{InFrame, LabelsHeld}
 
 -- the number of a frame's symbol is small
@@ -44,7 +44,8 @@ floats_are s r p places e g =
 
 module _ (s : Settings) (payload : List ℕ) (n : ℕ) where
   -- what the half labels of a symbol ask
-  pub labels_asked : (halves : List ℕ) → InFrame s payload n → 864 ≤ length halves → LabelsAsked halves (take s.length payload) s.seed (plan_for s) n
+  pub labels_asked : (halves : List ℕ) → InFrame s payload n → 864 ≤ length halves
+      → LabelsAsked halves (take s.length payload) s.seed (plan_for s) n
   labels_asked halves q h =
       let r = q.right in
       record {
@@ -70,8 +71,9 @@ module _ (s : Settings) (payload : List ℕ) (n : ℕ) where
 
   -- the half labels stand where they were filled in
   pub labels_held : (halves₀ halves : List ℕ) → InFrame s payload n → 864 ≤ length halves₀
-      → HalvesFilled (plan_for s) (half_label (plan_for s) (coder_input (payload_bit (take s.length payload)) (length (take s.length payload))
-      (plan_for s).encoders s.seed) n) (plan_for s).streams halves₀ halves → LabelsHeld s payload n halves
+      → HalvesFilled (plan_for s) (half_label (plan_for s)
+      (coder_input (payload_bit (take s.length payload)) (length (take s.length payload)) (plan_for s).encoders s.seed) n)
+      (plan_for s).streams halves₀ halves → LabelsHeld s payload n halves
   unfolding own
   labels_held halves₀ halves q h f =
       record {

@@ -22,7 +22,8 @@ fn mix(line: &mut [u8], raw: &[u8], outputs: &[u8], tail: usize, pad: usize)
 // The encoders' inputs from data bit `start` on.
 fn scrambled_inputs(line: &mut [u8], payload: &[u8], encoders: usize, seed: u8, start: usize)
     requires { ScrambledAsked line.old payload.now encoders seed start }
-    ensures { Filled 0 0 (λ t. coder_input (payload_bit payload.now) (length payload.now) encoders seed (start + t)) (length line.old) line.old line.new }
+    ensures { Filled 0 0 (λ t. coder_input (payload_bit payload.now) (length payload.now) encoders seed (start + t))
+        (length line.old) line.old line.new }
 {
     let mut raw = [0u8; 2184];
     let mut outputs = [0u8; MOST_LINE];

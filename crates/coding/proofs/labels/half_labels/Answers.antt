@@ -12,7 +12,8 @@ use Rattle.coding.proofs.labels.half_labels.Goals as goal
 -- the line has the symbol's inputs
 inputs : (c : After-coder_inputs) → let p = c.args.plan in
     let payload = c.args.payload.now in
-    Filled 0 0 (λ j. with_history (coder_input (payload_bit payload) (length payload) p.encoders c.args.seed) p.encoders (c.args.n * p.dbps + j))
+    let x = coder_input (payload_bit payload) (length payload) p.encoders c.args.seed in
+    Filled 0 0 (λ j. with_history x p.encoders (c.args.n * p.dbps + j))
     (p.dbps + 6 * p.encoders) (replicate 2172 0) (c.coder_inputs.new.line ++ drop (p.dbps + 6 * p.encoders) (replicate 2172 0))
 inputs c =
     let z = sizes _ _ c.requires.fits c.requires.near in
