@@ -1,6 +1,7 @@
 -- Bits and the number that they write.
 use Rattle.std.proofs.Common.{◌≡◌, ◌∙◌, refl, sym, ap, ap₂, ⊎_elim, ℕ, zero, suc, ◌+◌, ◌-◌, ◌*◌, ◌/◌, ◌%◌, ◌^◌, ◌<◌, ◌≤◌, add-one, arith}
-use Rattle.std.proofs.Math.Nat.{not-suc-le-zero, eq-or-lt_of_le, le_of_suc-le-suc, mul_comm, mul_assoc, mul-zero, pow-suc, pow-zero, mul-le-mul_left, mul-one, add-suc, add-zero, add-mul-div_left, mod-eq_of_lt}
+use Rattle.std.proofs.Math.Nat.{not-suc-le-zero, eq-or-lt_of_le, le_of_suc-le-suc, mul_comm, mul_assoc, mul-zero, pow-suc, pow-zero}
+use Rattle.std.proofs.Math.Nat.{mul-le-mul_left, mul-one, add-suc, add-zero, add-mul-div_left, mod-eq_of_lt}
 use Rattle.std.proofs.lemmas.Nat.{pow_pos, pow_below}
 use Rattle.laws.proofs.Radix.{quot_of}
 use Rattle.assembler.specs.Assembled.{bits_number}

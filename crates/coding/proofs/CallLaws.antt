@@ -1,10 +1,5 @@
 -- The call's parts together: inputs of the symbol's window, coded bits of that line, and labels from those bits are the definition's half labels.
-use mathlib.Core.Path.{◌≡◌, ◌∙◌, sym}
-use mathlib.Core.List.{List}
-use Prim.Native.Nat.{ℕ, ◌+◌, ◌*◌, ◌<◌, ◌≤◌, ◌^◌}
-use native.Mathlib.Nat.{mul-le-mul}
-use native.Mathlib.Omega.{arith}
-use lib.ListN.{get_or}
+use Rattle.std.proofs.Common.{◌≡◌, ◌∙◌, sym, List, ℕ, ◌+◌, ◌*◌, ◌<◌, ◌≤◌, ◌^◌, mul-le-mul, arith, get_or}
 use Rattle.laws.specs.Filled.{Filled}
 use Rattle.laws.proofs.Filling.{fill_at}
 use Rattle.chain.specs.Plan.{groups_of, Fits}

@@ -53,10 +53,9 @@ pub record HalvesFilled (p : Plan) (f : ℕ → ℕ → ℕ) (streams : ℕ) (ha
   pub rest : (k : ℕ) → streams * halves_of p ≤ k → get_or halves k 0 ≡ get_or halves₀ k 0
 
 -- the half labels of symbol n of a frame
-pub record LabelsAsked (halves payload : List ℕ) (bytes seed : ℕ) (p : Plan) (n : ℕ) : Type 0 where
+pub record LabelsAsked (halves payload : List ℕ) (seed : ℕ) (p : Plan) (n : ℕ) : Type 0 where
   pub fits : Fits p
   pub room : p.streams * halves_of p ≤ length halves
-  pub whole : bytes ≤ length payload
-  pub short : bytes ≤ 65535
+  pub short : length payload ≤ 65535
   pub seeded : seed < 128
   pub near : n ≤ 32768

@@ -47,7 +47,8 @@ impl StreamBits<'_> {
     // Half labels from one of them on.
     fn put(&self, halves: &mut [u8], from: usize)
         requires { HalfRunAsked halves.old self.now.coded.now self.now.table.now self.now.axis self.now.shift from }
-        ensures { Filled 0 0 (λ m. half_at self.now.coded.now self.now.table.now self.now.axis self.now.shift (from + m)) (length halves.old) halves.old halves.new }
+        ensures { Filled 0 0 (λ m. half_at self.now.coded.now self.now.table.now self.now.axis self.now.shift (from + m))
+            (length halves.old) halves.old halves.new }
     {
         for m in 0..halves.len() {
             halves[m] = self.half(from + m);
@@ -119,23 +120,16 @@ pub fn groups_of(plan: Plan) -> usize
 }
 
 // The half labels of symbol n of a frame: half m of stream i at i·count + m, with count halves a stream.
-pub fn half_labels(halves: &mut [u8], payload: &[u8], bytes: usize, seed: u8, plan: Plan, n: usize)
-    requires { LabelsAsked halves.old payload.now bytes seed plan n }
-    ensures { HalvesFilled plan (half_label plan (coder_input (payload_bit payload.now) bytes plan.encoders seed) n) plan.streams halves.old halves.new }
+pub fn half_labels(halves: &mut [u8], payload: &[u8], seed: u8, plan: Plan, n: usize)
+    requires { LabelsAsked halves.old payload.now seed plan n }
+    ensures { HalvesFilled plan (half_label plan (coder_input (payload_bit payload.now) (length payload.now) plan.encoders seed) n)
+        plan.streams halves.old halves.new }
 {
     let mut line = [0u8; MOST_LINE];
     let mut coded = [0u8; MOST_CODED];
     let encoders = plan.encoders;
     let inputs = plan.dbps + 6 * encoders;
-    coder_inputs(
-        &mut line,
-        payload,
-        bytes,
-        encoders,
-        seed,
-        n * plan.dbps,
-        inputs,
-    );
+    coder_inputs(&mut line[..inputs], payload, encoders, seed, n * plan.dbps);
     coded_bits(&mut coded, &line, encoders, plan.kept, groups_of(plan));
     symbol_halves(halves, &coded, plan);
 }

@@ -1,11 +1,11 @@
 -- A number as it is, at 64 bits; what a result tells. Assumes nothing.
-use mathlib.Core.Path.{◌≡◌, sym, ap, ◌∙◌, subst}
+use mathlib.Core.Path.{◌≡◌, ap}
 use Prim.Native.Nat.{ℕ, zero, suc, ◌+◌, ◌*◌, ◌<◌, ◌≤◌}
 use native.Mathlib.Omega.{arith}
-use lib.IntN.{ℤ, pos, ◌-ℤ◌, +ℤ_idl}
+use lib.IntN.{pos}
 use mir.Syntax.{w64}
-use mir.Val.{SFits, to_z, of_z}
-use mir.Facts.{to_z_pos, to_z-of_z}
+use mir.Val.{SFits, to_z}
+use mir.Facts.{to_z_pos}
 use Rattle.settings.specs.declared.settings.Refusal.{Refusal}
 use Rattle.settings.proofs.SettingsLaws.{number_range}
 use Rattle.settings.specs.Settings.{number_of}

@@ -1,18 +1,14 @@
 -- One and two floats put at the start of a list. Assumes nothing.
-use Rattle.std.specs.Prelude.{Err, Ok, Result}
+use Rattle.std.specs.Prelude.{Err, Result}
 use mathlib.Core.Path.{◌≡◌, refl, sym, ap}
-use mathlib.Core.Bool.{Bool, cond}
 use mathlib.Core.List.{List, [], ◌∷◌}
 use Prim.Native.Nat.{◌≤◌}
 use native.Mathlib.Nat.{le_of_suc-le-suc, not-suc-le-zero}
-use lib.Dec.{ltb}
-use lib.IntN.{pos}
 use lib.ListN.{length, set, drop}
 use lib.Ieee.{Float}
 use Rattle.settings.specs.declared.settings.Refusal.{Refusal}
-use Rattle.settings.specs.declared.settings.Refusal.TheVariants.{Room}
 use Rattle.query.specs.declared.query.Carried.{Carried}
-use Rattle.conversions.specs.Results.{refused_result, carried_number, carried_into, carrier_result, carrier_into}
+use Rattle.conversions.specs.Results.{refused_result, carrier_result, carrier_into}
 
 pub one_put : (l : List Float) (x : Float) → 2 ≤ length l → set l 0 x ≡ x ∷ drop 1 l
 one_put [] x h = absurd (not-suc-le-zero h)

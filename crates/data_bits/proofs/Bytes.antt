@@ -1,5 +1,6 @@
 -- Data bits by whole bytes: bytes of the payload one after the other, and what stands around them.
-use Rattle.std.proofs.Common.{◌≡◌, ◌∙◌, refl, sym, ap, List, [], ◌∷◌, ℕ, zero, suc, ◌+◌, ◌-◌, ◌*◌, ◌/◌, ◌%◌, ◌^◌, ◌<◌, ◌≤◌, min, T, eqb, length, get_or, arith}
+use Rattle.std.proofs.Common.{◌≡◌, ◌∙◌, refl, sym, ap, List, [], ◌∷◌, ℕ, zero, suc, ◌+◌, ◌-◌, ◌*◌, ◌/◌, ◌%◌, ◌^◌, ◌<◌, ◌≤◌, min, T, eqb}
+use Rattle.std.proofs.Common.{length, get_or, arith}
 use Rattle.std.proofs.Math.Dec.{eqb→eq}
 use Rattle.std.specs.List.{between}
 use Rattle.std.proofs.lemmas.List.Edits.{length-between, get_or-between}
@@ -19,10 +20,10 @@ all_zero (x ∷ l) t zero = eqb→eq x 0 (both_left (eqb x 0) (every (λ (y : �
 all_zero (x ∷ l) t (suc j) = all_zero l (both_right (eqb x 0) (every (λ (y : ℕ). eqb y 0) l) t) j
 
 -- data bits are asked for over a list of zeros
-pub data_asked : (raw payload : List ℕ) (bytes from count : ℕ) → T (every (λ (x : ℕ). eqb x 0) raw)
-    → 8 * count ≤ length raw → bytes ≤ length payload → bytes ≤ 65535 → from ≤ 2 ^ 27 → count ≤ 273 → DataAsked raw payload bytes from count
-data_asked raw payload bytes from count zeros room whole short near few =
-    record { room = room; blank = all_zero raw zeros; whole = whole; short = short; near = near; few = few }
+pub data_asked : (raw payload : List ℕ) (from count : ℕ) → T (every (λ (x : ℕ). eqb x 0) raw)
+    → 8 * count ≤ length raw → length payload ≤ 65535 → from ≤ 2 ^ 27 → count ≤ 273 → DataAsked raw payload from count
+data_asked raw payload from count zeros room short near few =
+    record { room = room; blank = all_zero raw zeros; short = short; near = near; few = few }
 
 -- the bits of some bytes of the payload are bits of the payload
 part_bit : (payload : List ℕ) (p q k : ℕ) → k < 8 * (q - p) → payload_bit (between p q payload) k ≡ payload_bit payload (8 * p + k)

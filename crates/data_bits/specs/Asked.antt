@@ -3,11 +3,10 @@ use Rattle.std.specs.Prelude.{◌≡◌, List, ℕ, ◌+◌, ◌*◌, ◌<◌, �
 use Rattle.chain.specs.DataBits.{payload_bit, data_bit}
 
 -- data bits by whole bytes: byte m of the data bits is bits 8·m to 8·m + 7
-pub record DataAsked (raw payload : List ℕ) (bytes from count : ℕ) : Type 0 where
+pub record DataAsked (raw payload : List ℕ) (from count : ℕ) : Type 0 where
   pub room : 8 * count ≤ length raw
   pub blank : (j : ℕ) → get_or raw j 0 ≡ 0
-  pub whole : bytes ≤ length payload
-  pub short : bytes ≤ 65535
+  pub short : length payload ≤ 65535
   pub near : from ≤ 2 ^ 27
   pub few : count ≤ 273
 

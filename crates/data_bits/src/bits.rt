@@ -43,12 +43,12 @@ pub fn below_mark(mark: usize, start: usize, count: usize) -> usize
 }
 
 // The data bits before scrambling, by whole bytes: two of service, the payload's, and zeros.
-pub fn data_bits(raw: &mut [u8], payload: &[u8], bytes: usize, from: usize, count: usize)
-    requires { DataAsked raw.old payload.now bytes from count }
-    ensures { DataFilled payload.now bytes from count raw.old raw.new }
+pub fn data_bits(raw: &mut [u8], payload: &[u8], from: usize, count: usize)
+    requires { DataAsked raw.old payload.now from count }
+    ensures { DataFilled payload.now (length payload.now) from count raw.old raw.new }
 {
     let low = below_mark(2, from, count);
-    let high = below_mark(bytes + 2, from, count);
+    let high = below_mark(payload.len() + 2, from, count);
     if low < high {
         put_bytes(
             &mut raw[8 * low..8 * high],

@@ -1,10 +1,5 @@
 -- The test of a data bit, range by range: what it says, and that a frame's own inputs pass it and no others.
-use mathlib.Core.Path.{◌≡◌, ◌∙◌, refl, sym, ap₂, subst}
-use mathlib.Core.Bool.{true}
-use mathlib.Core.Logic.{◌↔◌}
-use Prim.Native.Nat.{ℕ, zero, suc, ◌+◌, ◌-◌, ◌%◌, ◌<◌, ◌≤◌}
-use native.Mathlib.Omega.{arith}
-use lib.Dec.{T, eqb, eqb→eq}
+use Rattle.std.proofs.Common.{◌≡◌, ◌∙◌, refl, sym, ap₂, subst, true, ◌↔◌, ℕ, zero, suc, ◌+◌, ◌-◌, ◌%◌, ◌<◌, ◌≤◌, arith, T, eqb, eqb→eq}
 use borrow.Author.Tests.{lt-ltb, le-ltb}
 use Rattle.laws.specs.Test.{both, below_at, below_of}
 use Rattle.laws.proofs.Reflect.{T_true, true_T, eqb_of}

@@ -1,14 +1,13 @@
 -- What accepted settings and a frame's half labels give the calls' inner functions. Assumes nothing.
-use mathlib.Core.Path.{◌≡◌, ◌∙◌, sym, ap, subst}
-use mathlib.Core.List.{List}
-use Prim.Native.Nat.{ℕ, ◌+◌, ◌*◌, ◌^◌, ◌<◌, ◌≤◌}
-use native.Mathlib.Omega.{arith}
-use lib.ListN.{length, get_or}
+use Rattle.std.proofs.Common.{◌≡◌, ◌∙◌, sym, ap, subst, List, ℕ, ◌+◌, ◌-◌, ◌*◌, ◌/◌, ◌^◌, ◌<◌, ◌≤◌, length, take, get_or}
+use Rattle.std.proofs.Common.{length-take, get_or-take, arith}
 use Rattle.laws.specs.Claim.{Claim, ◌under◌, each, Holds, sound}
 use Rattle.chain.specs.declared.plan.Plan.{Plan}
 use Rattle.chain.specs.Plan.{widths, stream_counts}
 use Rattle.chain.specs.Parser.{axis_bits}
-use Rattle.chain.specs.Labels.{halves_of}
+use Rattle.chain.specs.DataBits.{payload_bit, coder_input}
+use Rattle.chain.specs.Labels.{half_label, halves_of}
+use Rattle.chain.proofs.InputLaws.{input_local}
 use Rattle.chain.proofs.LabelLaws.{half_lt, halves_most}
 use Rattle.coding.specs.Halves.{HalvesFilled, LabelsAsked}
 use Rattle.subcarriers.specs.Subcarriers.{places_of}
@@ -17,7 +16,7 @@ use Rattle.settings.specs.Settings.{plan_for, Right}
 use Rattle.symbols.specs.Symbols.{symbols_of}
 use Rattle.settings.proofs.SettingsLaws.{plan_fits}
 use Rattle.symbols.proofs.CountLaws.{symbols_few}
-use Rattle.frame.specs.Points.{input_of, labels_of, floats_of}
+use Rattle.frame.specs.Points.{input_of, floats_of}
 use Rattle.frame.specs.Asked.{InFrame, LabelsHeld}
 
 -- the number of a frame's symbol is small
@@ -45,25 +44,41 @@ floats_are s r p places e g =
 
 module _ (s : Settings) (payload : List ℕ) (n : ℕ) where
   -- what the half labels of a symbol ask
-  pub labels_asked : (halves : List ℕ) → InFrame s payload n → 864 ≤ length halves → LabelsAsked halves payload s.length s.seed (plan_for s) n
+  pub labels_asked : (halves : List ℕ) → InFrame s payload n → 864 ≤ length halves
+      → LabelsAsked halves (take s.length payload) s.seed (plan_for s) n
   labels_asked halves q h =
       let r = q.right in
       record {
         fits = plan_fits s r;
         room = omega (arith, h, halves_most (plan_for s) (plan_fits s r));
-        whole = q.whole_payload;
-        short = omega (arith, r.length_most);
+        short = omega (arith, length-take s.length payload, r.length_most);
         seeded = r.seed_most;
         near = symbol_near s n r q.below_count;
       }
 
-  -- they stand where they were filled in
-  pub labels_held : (halves₀ halves : List ℕ) → Right s → 864 ≤ length halves₀
-      → HalvesFilled (plan_for s) (labels_of s payload n) (plan_for s).streams halves₀ halves → LabelsHeld s payload n halves
-  labels_held halves₀ halves r h f =
+  -- the frame's bytes of the payload by themselves
+  own : List ℕ
+  own = take s.length payload
+
+  -- they give the frame's inputs
+  own_inputs : s.length ≤ length payload → (d : ℕ)
+      → coder_input (payload_bit own) (length own) (plan_for s).encoders s.seed d ≡ input_of s payload d
+  unfolding own
+  own_inputs whole d =
+      let sized : length own ≡ s.length = simp length-take (omega arith) in
+      rw sized (input_local (payload_bit own) (payload_bit payload) s.length (plan_for s).encoders _ d
+      (λ a b. rw (get_or-take s.length payload ((d - 16) / 8) 0 (omega arith))))
+
+  -- the half labels stand where they were filled in
+  pub labels_held : (halves₀ halves : List ℕ) → InFrame s payload n → 864 ≤ length halves₀
+      → HalvesFilled (plan_for s) (half_label (plan_for s)
+      (coder_input (payload_bit (take s.length payload)) (length (take s.length payload)) (plan_for s).encoders s.seed) n)
+      (plan_for s).streams halves₀ halves → LabelsHeld s payload n halves
+  unfolding own
+  labels_held halves₀ halves q h f =
       record {
-        sized = omega (arith, h, f.same, halves_most (plan_for s) (plan_fits s r));
-        held = f.done;
+        sized = omega (arith, h, f.same, halves_most (plan_for s) (plan_fits s q.right));
+        held = λ i m l b. f.done i m l b ∙ ap (λ (x : ℕ → ℕ). half_label (plan_for s) x n i m) (λ j d. own_inputs q.whole_payload d j);
       }
 
 -- and each is one of its axis's numbers

@@ -20,8 +20,7 @@ pub fn labels_of(halves: &mut [u8], payload: &[u8], s: Settings, n: usize)
 {
     half_labels(
         halves,
-        payload,
-        s.length as usize,
+        &payload[..s.length as usize],
         s.seed as u8,
         plan_of(s),
         n,

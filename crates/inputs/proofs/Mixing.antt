@@ -37,7 +37,8 @@ mixed_filled raw outputs tail pad n ordered ends raw_bits out_bits {line₀} {li
   same = cleared.same ∙ added.same;
   done = λ t h. rw (zero-add t) (parts tail pad t
       (λ a. cleared.before t a ∙ sum t h ∙ sym (mixed_before rawAt outAt tail pad t a))
-      (λ a b. ap (λ (j : ℕ). get_or line₂ j 0) (omega arith) ∙ cleared.done (t - tail) (omega arith) ∙ sym (mixed_tail rawAt outAt tail pad t a b))
+      (λ a b. ap (λ (j : ℕ). get_or line₂ j 0) (omega arith) ∙ cleared.done (t - tail) (omega arith)
+      ∙ sym (mixed_tail rawAt outAt tail pad t a b))
       (λ a. cleared.after t (omega arith) ∙ sum t h ∙ sym (mixed_after rawAt outAt tail pad t ordered a)));
   before = λ t h. absurd (omega arith);
   after = λ t h. cleared.after t (omega arith) ∙ added.after t h;
@@ -66,17 +67,19 @@ mixed_input v raw outputs bytes encoders seed start count tail pad t tail-is pad
     (λ a. mixed_after raw outputs tail pad t (omega arith) (omega arith) ∙ same ∙ sym (input_after v bytes encoders x (start + t) a))
 
 -- data bits from a whole byte on, outputs from the state at `start` on, and the mixed bits of both are the encoders' inputs from `start` on
-pub inputs_filled : (payload raw₀ raw outputs₀ outputs line₀ line : List ℕ) (bytes encoders seed start count state tail pad : ℕ) → count ≤ 2172
-    → DataFilled payload bytes (start / 8) ((start % 8 + count + 7) / 8) raw₀ raw
+pub inputs_filled : (payload raw₀ raw outputs₀ outputs line₀ line : List ℕ) (bytes encoders seed start count state tail pad : ℕ)
+    → count ≤ 2172 → DataFilled payload bytes (start / 8) ((start % 8 + count + 7) / 8) raw₀ raw
     → state ≡ state_at seed start → Filled 0 0 (λ t. scrambler_bit state t) count outputs₀ outputs
     → tail ≡ min (payload_end bytes - start) count → pad ≡ min (tail_end bytes encoders - start) count
     → Filled 0 0 (mixed_bit (λ j. get_or (between (start % 8) 2184 raw) j 0) (λ j. get_or outputs j 0) tail pad) count line₀ line
     → Filled 0 0 (λ t. coder_input (payload_bit payload) bytes encoders seed (start + t)) count line₀ line
-inputs_filled payload raw₀ raw outputs₀ outputs line₀ line bytes encoders seed start count state tail pad few data_is state_is out-is tail-is pad-is =
+inputs_filled payload raw₀ raw outputs₀ outputs line₀ line bytes encoders seed start count state tail pad few
+    data_is state_is out-is tail-is pad-is =
     fill_as _ _ _ (λ t. coder_input (payload_bit payload) bytes encoders seed (start + t)) _ _ _
     (λ t h. mixed_input (payload_bit payload) (λ j. get_or (between (start % 8) 2184 raw) j 0) (λ j. get_or outputs j 0)
     bytes encoders seed start count tail pad t tail-is pad-is h
-    (get_or-between raw (start % 8) 2184 t 0 (omega arith) ∙ data_is.done (start % 8 + t) (omega arith) ∙ ap (data_bit (payload_bit payload) bytes) (omega arith))
+    (get_or-between raw (start % 8) 2184 t 0 (omega arith) ∙ data_is.done (start % 8 + t) (omega arith)
+    ∙ ap (data_bit (payload_bit payload) bytes) (omega arith))
     (fill_at 0 (λ k. scrambler_bit state k) out-is t h ∙ ap (λ (s : ℕ). scrambler_bit s t) state_is))
 
 -- zeros, and the inputs after them, are the line from place `first` on

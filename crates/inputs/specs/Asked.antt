@@ -3,16 +3,14 @@ use Rattle.std.specs.Prelude.{cond, not, List, ℕ, ◌+◌, ◌%◌, ◌<◌, �
 use Rattle.laws.specs.Test.{both, among}
 use Rattle.chain.specs.Plan.{encoder_counts, most_line}
 
--- a line of encoder inputs from place `first` on, `count` of them, of a payload's first bytes
-pub record InputsAsked (line payload : List ℕ) (bytes encoders seed first count : ℕ) : Type 0 where
-  pub room : count ≤ length line
-  pub whole : bytes ≤ length payload
-  pub short : bytes ≤ 65535
+-- a line of encoder inputs of a payload from place `first` on
+pub record InputsAsked (line payload : List ℕ) (encoders seed first : ℕ) : Type 0 where
+  pub short : length payload ≤ 65535
   pub one_or_two : T (among encoder_counts encoders)
   pub seeded : seed < 128
   pub near : first ≤ 2 ^ 27
-  pub some : 12 ≤ count
-  pub few : count ≤ most_line
+  pub some : 12 ≤ length line
+  pub few : length line ≤ most_line
 
 -- bit t of data bits and scrambler outputs together, the tail between two places zero
 abbrev pub mixed_bit : (raw outputs : ℕ → ℕ) (tail pad t : ℕ) → ℕ
@@ -27,10 +25,9 @@ pub record MixAsked (line raw outputs : List ℕ) (tail pad : ℕ) : Type 0 wher
   pub raw_bits : (j : ℕ) → get_or raw j 0 < 2
   pub out_bits : (j : ℕ) → j < length line → get_or outputs j 0 < 2
 
-pub record ScrambledAsked (line payload : List ℕ) (bytes encoders seed start : ℕ) : Type 0 where
+pub record ScrambledAsked (line payload : List ℕ) (encoders seed start : ℕ) : Type 0 where
   pub few : length line ≤ most_line
-  pub whole : bytes ≤ length payload
-  pub short : bytes ≤ 65535
+  pub short : length payload ≤ 65535
   pub at_most_two : encoders ≤ 2
   pub seeded : seed < 128
   pub near : start ≤ 2 ^ 27

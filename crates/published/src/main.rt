@@ -5,7 +5,7 @@
 ghost use Rattle.std.specs.Prelude.{◌+◌, ◌%◌, [], ◌∷◌, ◌++◌, map, OnOk};
 ghost use Rattle.std.specs.Io.KnownBytes.{Appends};
 
-use chain::plan::{MOST_CODED, MOST_LINE};
+use chain::plan::MOST_CODED;
 use inputs::line::coder_inputs;
 use puncturing::coded::coded_bits;
 use scrambler::outputs::scrambler_outputs;
@@ -34,8 +34,8 @@ fn main(rt: HostRuntime) -> io::Result<()> {
     let mut outputs = [0u8; 127];
     scrambler_outputs(&mut outputs, 127, 127);
     print_bits(&mut out, &outputs)?;
-    let mut line = [0u8; MOST_LINE];
-    coder_inputs(&mut line, &MESSAGE, 100, 1, 93, 0, 162);
+    let mut line = [0u8; 162];
+    coder_inputs(&mut line, &MESSAGE, 1, 93, 0);
     print_bits(&mut out, &line[6..54])?;
     let mut coded = [0u8; MOST_CODED];
     coded_bits(&mut coded, &line, 1, 4, 52);

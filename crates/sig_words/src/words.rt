@@ -1,6 +1,6 @@
 // The HT-SIG field as a number: its fields, its CRC, its six bytes. Crate `signal` says that this is the field by its bits.
 ghost use Rattle.std.specs.Prelude.{◌≡◌, ◌++◌, ◌<◌, ◌≤◌, ◌%◌, length, drop};
-ghost use Rattle.sig_words.specs.Words.{one_if, SigFits, head_word, sig_word, six_of, word_in, word_crc_wrong, word_form_wrong, fields_in_word};
+ghost use Rattle.sig_words.specs.Words.{SigFits, head_word, sig_word, six_of, word_in, word_crc_wrong, word_form_wrong, fields_in_word};
 
 use sig_crc::crc::{crc, crc_field};
 

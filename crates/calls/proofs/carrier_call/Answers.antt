@@ -1,8 +1,8 @@
 -- `carrier_call`: a number for each answer, and the floats of what is carried.
-use Rattle.std.proofs.Common.{◌≡◌, ◌∙◌, sym, ap, true, false, ltb, length, lt-ltb, le-ltb, arith, rules, to_z-of_z}
+use Rattle.std.proofs.Common.{◌≡◌, ◌∙◌, sym, ap, rules, to_z-of_z}
 use Rattle.settings.specs.Settings.{check_of}
 use Rattle.query.specs.Query.{query_of}
-use Rattle.conversions.proofs.Put.{carrier_refused, carrier_by}
+use Rattle.conversions.proofs.Put.{carrier_refused}
 use Rattle.calls.proofs.carrier_call.Goals.{After-subcarrier}
 use Rattle.calls.proofs.carrier_call.Goals as goal
 

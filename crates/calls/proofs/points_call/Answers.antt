@@ -1,5 +1,5 @@
 -- `points_call`: a number for each answer; the floats are the call's own.
-use Rattle.std.proofs.Common.{◌≡◌, ◌∙◌, sym, ap, ◌≤◌, length, arith, rules}
+use Rattle.std.proofs.Common.{◌∙◌, sym, ap, ◌≤◌, length, arith, rules}
 use Rattle.frame.proofs.PointsLaws.{written_few}
 use Rattle.conversions.specs.Results.{points_result}
 use Rattle.conversions.proofs.Minus.{pos_fits, pos_is}

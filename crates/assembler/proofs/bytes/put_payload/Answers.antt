@@ -8,16 +8,18 @@ use Rattle.assembler.proofs.bytes.put_payload.Goals as goal
 
 -- the line has the known bits, whether the symbol has any of them or not
 known_line : (c : Joined-before-after)
-    → KnownLine c.args.bytes c.args.start c.args.part c.payload_before-before.result c.payload_before-after.result (λ d. get_or c.args.plain.now d 0)
-    (replicate 2176 0) c.if-before-after.line
+    → KnownLine c.args.bytes c.args.start c.args.part c.payload_before-before.result c.payload_before-after.result
+    (λ d. get_or c.args.plain.now d 0) (replicate 2176 0) c.if-before-after.line
 known_line c =
     let a = c.args in
     let before = c.payload_before-before.result in
     let from = 16 + before - a.start in
-    let asked = line_asked (replicate 2176 0) _ _ _ _ _ _ _ _ tt (omega arith) c.requires c.payload_before-before.ensures c.payload_before-after.ensures in
+    let asked = line_asked (replicate 2176 0) _ _ _ _ _ _ _ _ tt (omega arith) c.requires
+    c.payload_before-before.ensures c.payload_before-after.ensures in
     elim c.if-before-after.branch [
       | then-before-after w ↦ rw w.line-is (line_symbol _ _ _ _ _ _ _ _ asked _ c.put_byte.ensures w.if-before-after.true _
-          (fill_copied 0 (before % 8) a.plain.now from _ _ _ c.put_byte.new.raw _ (omega arith) (omega arith) (omega arith) (omega arith) w.copy_from_slice.ensures.after))
+          (fill_copied 0 (before % 8) a.plain.now from _ _ _ c.put_byte.new.raw _ (omega arith) (omega arith) (omega arith) (omega arith)
+          w.copy_from_slice.ensures.after))
       | else-before-after w ↦ rw w.line-is (line_part _ _ _ _ _ _ _ _ asked _ c.put_byte.ensures (omega arith))
     ]
 

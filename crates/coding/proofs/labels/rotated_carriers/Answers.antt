@@ -1,5 +1,5 @@
 -- `rotated_carriers` goes by the width.
-use native.Mathlib.Omega.{arith}
+use Rattle.std.proofs.Common.{arith}
 use Rattle.chain.specs.Interleaver.{rotation}
 use Rattle.std.proofs.lemmas.Bool.{ne_eqb}
 use Rattle.coding.proofs.labels.rotated_carriers.Goals as goal

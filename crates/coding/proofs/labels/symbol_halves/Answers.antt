@@ -10,7 +10,9 @@ count_is : (c : In-loop-i) → c.halves_of-count.result ≡ halves_of c.args.pla
 count_is c = counted_halves c.args.plan c.requires.fits _ c.halves_of-count.ensures
 
 room : (c : In-loop-i) → (c.loop-i.i + 1) * c.halves_of-count.result ≤ length c.loop-i.halves
-room c = omega (arith, stream_room c.args.plan c.requires.fits c.loop-i.i c.loop-i-test.true _ (count_is c), c.requires.room, c.loop-i.invariant.same)
+room c =
+    let among = stream_room c.args.plan c.requires.fits c.loop-i.i c.loop-i-test.true _ (count_is c) in
+    omega (arith, among, c.requires.room, c.loop-i.invariant.same)
 
 pub slice_bounds-stream_halves-end : goal.slice_bounds-stream_halves-end
 slice_bounds-stream_halves-end c = omega (arith, room c)

@@ -5,4 +5,5 @@ use Rattle.deframer.proofs.bits.seed_of.Goals as goal
 
 pub returns : goal.returns
 returns c = let l = c.loop-input in
-    seed_by (λ d. get_or c.args.inputs.now d 0) _ _ _ (omega (arith, length-take 7 c.args.inputs.now)) l.invariant.0 l.invariant.1 c.jump.ensures
+    seed_by (λ d. get_or c.args.inputs.now d 0) _ _ _ (omega (arith, length-take 7 c.args.inputs.now))
+    l.invariant.0 l.invariant.1 c.jump.ensures

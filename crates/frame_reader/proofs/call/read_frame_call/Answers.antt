@@ -2,13 +2,10 @@
 use Rattle.std.specs.Prelude.{Err}
 use Rattle.frame_steps.specs.declared.steps.FrameRefusal.TheVariants.{Refused as FrameRefused}
 use mathlib.Core.Path.{◌≡◌, sym, ap, ◌∙◌}
-use native.Mathlib.Omega.{arith}
-use lib.IntN.{pos}
 use borrow.Author.Tests.{ne_eqb}
 use Rattle.settings.specs.declared.settings.Refusal.{Refusal}
 use Rattle.settings.specs.Settings.{number_of}
 use Rattle.conversions.specs.Results.{refused_result}
-use Rattle.conversions.proofs.Minus.{pos_is}
 use Rattle.frame_steps.proofs.LoopLaws.{refusal_some}
 use Rattle.frame_reader.specs.Result.{frame_result}
 use borrow.Author.Rules.{rules}

@@ -8,4 +8,5 @@ pub returns : goal.returns
 returns c = let a = c.args in
     let q = c.requires in
     mixed_filled a.raw.now a.outputs.now a.tail a.pad _ q.ordered q.ends q.raw_bits q.out_bits c.add_bits.ensures
-    (fill_same 0 a.tail 0 (a.pad - a.tail) _ c.add_bits.new.sums _ (omega (arith, c.add_bits.ensures.same)) (omega arith) (c.fill.ensures.after (λ y e. e)))
+    (fill_same 0 a.tail 0 (a.pad - a.tail) _ c.add_bits.new.sums _ (omega (arith, c.add_bits.ensures.same)) (omega arith)
+    (c.fill.ensures.after (λ y e. e)))

@@ -6,13 +6,13 @@ use Rattle.inputs.proofs.Mixing.{inputs_filled}
 use Rattle.inputs.proofs.line.scrambled_inputs.Goals as goal
 
 pub data_bits-requires : goal.data_bits-requires
-data_bits-requires c = data_asked _ _ _ _ _ tt (omega arith) (omega arith) (omega arith) (omega arith) (omega arith)
+data_bits-requires c = data_asked _ _ _ _ tt (omega arith) (omega arith) (omega arith) (omega arith)
 
 pub scrambler_outputs-requires : goal.scrambler_outputs-requires
 scrambler_outputs-requires c = (rw c.jump.ensures (state_small _ _ c.requires.seeded), omega arith)
 
 pub returns : goal.returns
 returns c = let a = c.args in
-    inputs_filled a.payload.now _ _ _ _ _ _ a.bytes a.encoders a.seed a.start _ _ _ _ c.requires.few
+    inputs_filled a.payload.now _ _ _ _ _ _ _ a.encoders a.seed a.start _ _ _ _ c.requires.few
     c.data_bits.ensures c.jump.ensures c.scrambler_outputs.ensures
     c.below_mark-tail.ensures c.below_mark-pad.ensures c.mix.ensures

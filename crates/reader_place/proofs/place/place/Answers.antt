@@ -1,5 +1,5 @@
 -- `place` goes by the tests of 12 and 8; where none applies, by the search.
-use Rattle.std.proofs.Common.{◌≡◌, ◌∙◌, ℕ, ℤ, ltb, length, true, false, Ok, Option, Some, refl, sym, ap, arith, rules, lt-ltb, le-ltb, w32, to_z, of_z}
+use Rattle.std.proofs.Common.{◌≡◌, ◌∙◌, ℕ, length, true, false, Ok, Option, Some, refl, sym, ap, arith, rules, lt-ltb, le-ltb, w32, to_z, of_z}
 use Rattle.settings.specs.Settings.{check_of, plan_for, Right}
 use Rattle.frame.specs.Points.{floats_of}
 use Rattle.detector.specs.Detected.{search_of}

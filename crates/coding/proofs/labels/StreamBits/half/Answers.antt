@@ -1,5 +1,5 @@
 -- `StreamBits::half` puts one, two or three coded bits together.
-use mathlib.Core.Path.{◌≡◌}
+use Rattle.std.proofs.Common.{◌≡◌}
 use Rattle.sources.proofs.SourceLaws.{three_left}
 use Rattle.coding.proofs.HalfLaws.{one_bit_lem, two_bits_lem, three_bits_lem}
 use Rattle.coding.proofs.labels.StreamBits.half.Goals as goal
