@@ -2,7 +2,7 @@
 use Rattle.std.specs.Prelude.{Ok}
 use mathlib.Core.Path.{◌≡◌, ◌∙◌, refl, sym, ap}
 use mathlib.Core.Bool.{Bool, true, false, ◌||◌}
-use mathlib.Core.List.{List, [], ◌∷◌}
+use mathlib.Core.List.{List}
 use Prim.Native.Nat.{ℕ, zero, suc, ◌*◌, ◌%◌, ◌^◌, ◌<◌, ◌≤◌}
 use native.Mathlib.Nat.{mul-le-mul}
 use native.Mathlib.Omega.{arith}
@@ -10,7 +10,6 @@ use native.Mathlib.Decide.{ℕ_discrete}
 use borrow.Author.Tests.{le-ltb, ltb-false, leb-false, lt-leb, le-leb, eq-eqb, ne_eqb, eqb-false}
 use lib.Dec.{leb, ltb, eqb}
 use lib.ListN.{get_or}
-use Rattle.laws.specs.Claim.{Claim, ◌is◌, up_to, Holds, sound}
 use Rattle.laws.proofs.Reflect.{or_false}
 use Rattle.laws.proofs.Search.{above}
 use Rattle.chain.specs.declared.plan.Plan.{Plan}
@@ -22,13 +21,6 @@ use Rattle.symbols.proofs.CountLaws.{symbols_few}
 use Rattle.assembler.specs.Assembled.{payload_before}
 use Rattle.reader_state.specs.declared.state.Reader.{Reader}
 use Rattle.reader_state.specs.State.{InRange, OnlyEnded, open_raw, history_of, first_bit, bad_histories, bad_scrambler, bad_part, closed_of, ended_of}
-
-abbrev power_claim : Claim
-power_claim = up_to 8 λ r. get_or (1 ∷ 2 ∷ 4 ∷ 8 ∷ 16 ∷ 32 ∷ 64 ∷ 128 ∷ []) r 0 is 2 ^ r
-
--- the powers of two below 256, as the code tables them
-pub powers : Holds power_claim
-powers = sound power_claim tt
 
 -- the number of a symbol's first data bit is small
 pub first_near : (s : Settings) → Right s → (n : ℕ) → n < 32768 → n * (plan_for s).dbps ≤ 70778880

@@ -1,5 +1,5 @@
 // The reader's state, its start, and whether a state is closed.
-ghost use Rattle.std.specs.Prelude.{◌≡◌, ◌%◌, ◌^◌, ◌<◌};
+ghost use Rattle.std.specs.Prelude.{◌≡◌, ◌%◌, ◌<◌};
 ghost use Rattle.settings.specs.Settings.{Right};
 ghost use Rattle.reader_state.specs.State.{open_raw, blank, start_of, bad_histories, bad_scrambler, bad_part, closed_of, ended_of};
 
@@ -93,15 +93,6 @@ pub fn start(o: OpenSettings) -> Started
     }
 }
 
-const POWERS: [u8; 8] = [1, 2, 4, 8, 16, 32, 64, 128];
-
-fn power(r: usize) -> u8
-    requires { r < 8 }
-    ensures { result ≡ 2 ^ r }
-{
-    POWERS[r]
-}
-
 // Histories are six bits, encoder by encoder.
 fn bad_histories(histories: [u8; 2]) -> bool
     ensures { result ≡ bad_histories histories }
@@ -123,7 +114,7 @@ fn bad_part(s: Settings, symbol: u64, part: u8) -> bool
 {
     let plan = plan_of(s);
     let before = payload_before(s.length as usize, symbol as usize * plan.dbps);
-    part >= power(before % 8)
+    part >= 1 << (before % 8)
 }
 
 // Whether a state is finished, ended or outside its ranges, its settings being accepted.

@@ -1,10 +1,8 @@
 -- `count_call`: a number for each answer.
-use mathlib.Core.Path.{sym, ap, ◌∙◌}
-use native.Mathlib.Omega.{arith}
+use Rattle.std.proofs.Common.{sym, ap, ◌∙◌, arith, rules}
 use Rattle.symbols.proofs.CountLaws.{count_few}
 use Rattle.conversions.specs.Results.{count_result}
 use Rattle.conversions.proofs.Minus.{pos_fits, pos_is}
-use borrow.Author.Rules.{rules}
 use Rattle.calls.proofs.count_call.Goals as goal
 
 pub overflow_cast-result : goal.overflow_cast-result

@@ -1,11 +1,8 @@
 -- `sig_read_call`: a number for each answer.
-use mathlib.Core.Path.{sym, ap, ◌∙◌}
-use native.Mathlib.Omega.{arith}
-use lib.IntN.{pos}
+use Rattle.std.proofs.Common.{sym, ap, ◌∙◌, arith, pos, rules}
 use Rattle.signal.proofs.ReadFields.{read_fields_fit}
 use Rattle.conversions.specs.Results.{read_result}
 use Rattle.conversions.proofs.Minus.{pos_is}
-use borrow.Author.Rules.{rules}
 use Rattle.calls.proofs.sig_read_call.Goals as goal
 
 pub fields_number-requires : goal.fields_number-requires

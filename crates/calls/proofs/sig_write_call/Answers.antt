@@ -1,7 +1,6 @@
 -- `sig_write_call`: a number for each answer; the bytes are the call's own.
-use mathlib.Core.Path.{sym, ap, ◌∙◌}
+use Rattle.std.proofs.Common.{sym, ap, ◌∙◌, rules}
 use Rattle.conversions.specs.Results.{written_result}
-use borrow.Author.Rules.{rules}
 use Rattle.calls.proofs.sig_write_call.Goals as goal
 
 pub returns-in-Ok : goal.returns-in-Ok

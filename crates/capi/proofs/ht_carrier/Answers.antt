@@ -1,15 +1,11 @@
 -- `ht_carrier` gathers its settings and calls on.
-use Rattle.std.specs.Prelude.{Result}
+use Rattle.std.proofs.Common.{Result, ◌∙◌, ap, length, to_z-of_z, rules}
 use Rattle.query.specs.declared.query.Carried.{Carried}
 use Rattle.settings.specs.declared.settings.Refusal.{Refusal}
-use mathlib.Core.Path.{◌∙◌, ap}
-use lib.ListN.{length}
-use mir.Facts.{to_z-of_z}
 use Rattle.settings.specs.declared.settings.RawSettings.{RawSettings}
 use Rattle.settings.specs.Settings.{check_of}
 use Rattle.query.specs.Query.{query_of}
 use Rattle.conversions.specs.Results.{carrier_result, carrier_into}
-use borrow.Author.Rules.{rules}
 use Rattle.capi.proofs.ht_carrier.Goals as goal
 
 pub returns : goal.returns

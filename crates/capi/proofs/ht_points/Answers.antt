@@ -1,11 +1,9 @@
 -- `ht_points` gathers its settings and calls on.
-use mathlib.Core.Path.{◌∙◌, ap}
-use lib.ListN.{length}
+use Rattle.std.proofs.Common.{◌∙◌, ap, length, rules}
 use Rattle.settings.specs.declared.settings.RawSettings.{RawSettings}
 use Rattle.settings.specs.Settings.{check_of}
 use Rattle.frame.specs.Points.{points_of, points_into}
 use Rattle.conversions.specs.Results.{points_result}
-use borrow.Author.Rules.{rules}
 use Rattle.capi.proofs.ht_points.Goals as goal
 
 pub returns : goal.returns

@@ -1,10 +1,8 @@
 -- `ht_read_frame` gathers its settings and calls on.
-use mathlib.Core.Path.{◌∙◌, ap}
-use lib.ListN.{length}
+use Rattle.std.proofs.Common.{◌∙◌, ap, length, rules}
 use Rattle.reader_state.specs.declared.state.OpenSettings.{OpenSettings}
 use Rattle.frame_steps.specs.WholeFrame.{read_frame_of, read_frame_into}
 use Rattle.frame_reader.specs.Result.{frame_result}
-use borrow.Author.Rules.{rules}
 use Rattle.capi.proofs.ht_read_frame.Goals as goal
 
 pub returns : goal.returns

@@ -1,8 +1,7 @@
 -- `ht_reader_place` gathers its settings and calls on.
-use mathlib.Core.Path.{◌∙◌, ap}
+use Rattle.std.proofs.Common.{◌∙◌, ap, rules}
 use Rattle.reader_state.specs.declared.state.OpenSettings.{OpenSettings}
 use Rattle.reader_numbers.specs.Numbers.{place_result}
-use borrow.Author.Rules.{rules}
 use Rattle.capi.proofs.ht_reader_place.Goals as goal
 
 pub returns : goal.returns

@@ -1,9 +1,8 @@
 -- `ht_reader_start` gathers its settings and calls on.
-use mathlib.Core.Path.{◌∙◌, ap}
+use Rattle.std.proofs.Common.{◌∙◌, ap, rules}
 use Rattle.reader_state.specs.declared.state.OpenSettings.{OpenSettings}
 use Rattle.reader_state.specs.State.{start_of}
 use Rattle.reader_numbers.specs.Numbers.{start_result}
-use borrow.Author.Rules.{rules}
 use Rattle.capi.proofs.ht_reader_start.Goals as goal
 
 pub returns : goal.returns

@@ -1,10 +1,7 @@
 -- `ht_reader_step` gathers its settings and calls on.
-use mathlib.Core.Path.{◌∙◌, ap}
-use lib.IntN.{pos}
-use lib.ListN.{length}
+use Rattle.std.proofs.Common.{◌∙◌, ap, pos, length, rules}
 use Rattle.reader_state.specs.declared.state.OpenSettings.{OpenSettings}
 use Rattle.reader_numbers.specs.Numbers.{step_result, step_result_into}
-use borrow.Author.Rules.{rules}
 use Rattle.capi.proofs.ht_reader_step.Goals as goal
 
 pub returns : goal.returns

@@ -1,11 +1,9 @@
 -- `ht_sig_write` gathers its settings and calls on.
-use mathlib.Core.Path.{◌∙◌, ap}
-use lib.ListN.{length}
+use Rattle.std.proofs.Common.{◌∙◌, ap, length, rules}
 use Rattle.settings.specs.declared.settings.RawSettings.{RawSettings}
 use Rattle.settings.specs.Settings.{check_of}
 use Rattle.signal.specs.HtSig.{written_of, written_into}
 use Rattle.conversions.specs.Results.{written_result}
-use borrow.Author.Rules.{rules}
 use Rattle.capi.proofs.ht_sig_write.Goals as goal
 
 pub returns : goal.returns

@@ -1,10 +1,9 @@
 -- `ht_symbol_count` gathers its settings and calls on.
-use mathlib.Core.Path.{◌∙◌, ap}
+use Rattle.std.proofs.Common.{◌∙◌, ap, rules}
 use Rattle.settings.specs.declared.settings.RawSettings.{RawSettings}
 use Rattle.settings.specs.Settings.{check_of}
 use Rattle.symbols.specs.Symbols.{count_of}
 use Rattle.conversions.specs.Results.{count_result}
-use borrow.Author.Rules.{rules}
 use Rattle.capi.proofs.ht_symbol_count.Goals as goal
 
 pub returns : goal.returns

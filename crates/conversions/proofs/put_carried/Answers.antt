@@ -1,6 +1,5 @@
 -- `put_carried` goes by what is carried.
-use mathlib.Core.Path.{◌∙◌, sym, ap}
-use lib.IntN.{pos}
+use Rattle.std.proofs.Common.{◌∙◌, sym, ap, pos}
 use Rattle.query.specs.declared.query.Carried.{Carried}
 use Rattle.conversions.specs.Results.{carried_number, carried_into}
 use Rattle.conversions.proofs.Put.{one_put, two_put}

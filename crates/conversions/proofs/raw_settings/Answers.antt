@@ -1,5 +1,5 @@
 -- `raw_settings` is the definition, field by field.
-use mathlib.Core.Path.{refl}
+use Rattle.std.proofs.Common.{refl}
 use Rattle.conversions.proofs.raw_settings.Goals as goal
 
 pub returns : goal.returns

@@ -1,8 +1,7 @@
 -- `place_call` goes by whether the number is a state's.
 use Rattle.reader_numbers.specs.Numbers.{PlaceRight}
-use mathlib.Core.Path.{◌∙◌, sym, subst}
+use Rattle.std.proofs.Common.{◌∙◌, sym, subst, rules}
 use Rattle.reader_calls.proofs.CallLaws.{place_none, place_some, place_right}
-use borrow.Author.Rules.{rules}
 use Rattle.reader_calls.proofs.place_call.Goals as goal
 
 pub returns-then-no_state : goal.returns-then-no_state

@@ -1,12 +1,7 @@
 -- `start_call`: a number for each answer.
-use Rattle.std.specs.Prelude.{Err, Ok}
-use mathlib.Core.Path.{◌∙◌, ap}
-use native.Mathlib.Omega.{arith}
-use lib.IntN.{pos}
-use mir.Syntax.{w64}
+use Rattle.std.proofs.Common.{Err, Ok, ◌∙◌, ap, arith, pos, w64, rules}
 use mir.Facts.{to_z_pos}
 use Rattle.reader_calls.proofs.CallLaws.{start_small, started_as}
-use borrow.Author.Rules.{rules}
 use Rattle.reader_calls.proofs.start_call.Goals as goal
 
 pub state_number-requires : goal.state_number-requires

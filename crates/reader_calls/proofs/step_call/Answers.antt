@@ -1,9 +1,5 @@
 -- `step_call` goes by whether the number is a state's.
-use Prim.Native.Nat.{ℕ, ◌+◌, ◌*◌}
-use mathlib.Core.Path.{◌∙◌, ap}
-use native.Mathlib.Omega.{arith}
-use lib.IntN.{pos}
-use mir.Syntax.{w64}
+use Rattle.std.proofs.Common.{ℕ, ◌+◌, ◌*◌, ◌∙◌, ap, arith, pos, w64}
 use mir.Facts.{to_z_pos}
 use Rattle.reader_calls.proofs.CallLaws.{step_none, step_some, step_held}
 use Rattle.reader_calls.proofs.step_call.Goals as goal

@@ -1,9 +1,5 @@
 -- `found_number`: stream and subcarrier are small.
-use mathlib.Core.Path.{◌∙◌, ap}
-use native.Mathlib.Omega.{arith}
-use Prim.Native.Nat.{ℕ, ◌+◌, ◌*◌}
-use lib.IntN.{pos}
-use mir.Facts.{to_z-of_z}
+use Rattle.std.proofs.Common.{◌∙◌, ap, arith, ℕ, ◌+◌, ◌*◌, pos, to_z-of_z}
 use Rattle.reader_numbers.proofs.NumberLaws.{place_number_is}
 use Rattle.reader_numbers.proofs.found_number.Goals as goal
 

@@ -1,5 +1,5 @@
 -- `reader_of` takes each field out of its place of the number.
-use mathlib.Core.Path.{refl}
+use Rattle.std.proofs.Common.{refl}
 use Rattle.reader_numbers.specs.Numbers.{reader_of}
 use Rattle.reader_numbers.proofs.reader_of.Goals as goal
 

@@ -1,5 +1,5 @@
 -- `stepped_number` adds number, seed and state up, each at its place.
-use native.Mathlib.Omega.{arith}
+use Rattle.std.proofs.Common.{arith}
 use Rattle.reader_numbers.specs.Numbers.{stepped_number}
 use Rattle.reader_numbers.proofs.stepped_number.Goals as goal
 

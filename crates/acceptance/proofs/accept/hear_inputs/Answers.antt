@@ -1,7 +1,6 @@
 -- `hear_inputs` puts the parts together: the scrambler, the plain bits, the test, the bytes and the state after them.
 use Rattle.acceptance.specs.Asked.{bit_numbered}
-use mathlib.Core.Path.{◌∙◌, sym}
-use native.Mathlib.Omega.{arith}
+use Rattle.std.proofs.Common.{◌∙◌, sym, arith}
 use Rattle.acceptance.proofs.AcceptedLaws.{scrambler_asked, plain_asked, right_asked, bytes_asked, plain_at, plain_small, heard_accepted, heard_refused}
 use Rattle.acceptance.proofs.accept.hear_inputs.Goals as goal
 

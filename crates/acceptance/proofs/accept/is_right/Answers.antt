@@ -1,8 +1,5 @@
 -- `is_right` is the test of the frame's own bits, and of a seed that is not 0.
-use mathlib.Core.Path.{ap}
-use native.Mathlib.Omega.{arith}
-use mathlib.Core.Bool.{Bool, ◌&&◌}
-use lib.Dec.{ltb}
+use Rattle.std.proofs.Common.{ap, arith, Bool, ◌&&◌, ltb}
 use Rattle.reader_state.proofs.StateLaws.{bits_near, symbol_few}
 use Rattle.acceptance.proofs.AcceptedLaws.{framed_asked, framed_by}
 use Rattle.acceptance.proofs.accept.is_right.Goals as goal

@@ -1,5 +1,5 @@
 -- `moved` sets each field of the state as the definition does.
-use native.Mathlib.Omega.{arith}
+use Rattle.std.proofs.Common.{arith}
 use Rattle.reader_state.proofs.StateLaws.{symbol_few}
 use Rattle.acceptance.proofs.AcceptedLaws.{moved_by}
 use Rattle.acceptance.proofs.accept.moved.Goals as goal

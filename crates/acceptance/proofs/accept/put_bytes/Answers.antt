@@ -1,5 +1,5 @@
 -- `put_bytes` asks for the payload's bytes by the numbers of the settings.
-use native.Mathlib.Omega.{arith}
+use Rattle.std.proofs.Common.{arith}
 use Rattle.reader_state.proofs.StateLaws.{bits_near, symbol_few}
 use Rattle.acceptance.proofs.AcceptedLaws.{bytes_by, left_by}
 use Rattle.acceptance.proofs.accept.put_bytes.Goals as goal

@@ -1,5 +1,5 @@
 -- `scrambler_for` goes by whether the symbol is the first.
-use mathlib.Core.Path.{◌∙◌}
+use Rattle.std.proofs.Common.{◌∙◌}
 use Rattle.acceptance.proofs.AcceptedLaws.{scrambler_first, scrambler_later}
 use Rattle.acceptance.proofs.accept.scrambler_for.Goals as goal
 

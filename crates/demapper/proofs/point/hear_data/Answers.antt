@@ -1,5 +1,5 @@
 -- `hear_data` stores the bits of one label or of two.
-use native.Mathlib.Omega.{arith}
+use Rattle.std.proofs.Common.{arith}
 use Rattle.demapper.proofs.PointLaws.{axis_room, data_one, data_two}
 use Rattle.demapper.proofs.point.hear_data.Goals as goal
 

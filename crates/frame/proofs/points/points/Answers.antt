@@ -1,10 +1,5 @@
 -- `points` goes by the tests of its refusals; where none applies, the symbol is written.
-use Rattle.std.specs.Prelude.{Ok}
-use mathlib.Core.Path.{◌≡◌, ◌∙◌, sym, ap}
-use mathlib.Core.Bool.{Bool, false}
-use Prim.Native.Nat.{ℕ}
-use lib.Dec.{ltb, leb}
-use lib.ListN.{length}
+use Rattle.std.proofs.Common.{Ok, ◌≡◌, ◌∙◌, sym, ap, Bool, false, ℕ, ltb, leb, length}
 use Rattle.settings.specs.Settings.{check_of}
 use Rattle.symbols.specs.Symbols.{symbols_of}
 use Rattle.frame.specs.Points.{floats_of}

@@ -1,14 +1,11 @@
 -- `read_frame_call`: a number for each answer.
-use Rattle.std.specs.Prelude.{Err}
+use Rattle.std.proofs.Common.{Err, ◌≡◌, sym, ap, ◌∙◌, ne_eqb, rules}
 use Rattle.frame_steps.specs.declared.steps.FrameRefusal.TheVariants.{Refused as FrameRefused}
-use mathlib.Core.Path.{◌≡◌, sym, ap, ◌∙◌}
-use borrow.Author.Tests.{ne_eqb}
 use Rattle.settings.specs.declared.settings.Refusal.{Refusal}
 use Rattle.settings.specs.Settings.{number_of}
 use Rattle.conversions.specs.Results.{refused_result}
 use Rattle.frame_steps.proofs.LoopLaws.{refusal_some}
 use Rattle.frame_reader.specs.Result.{frame_result}
-use borrow.Author.Rules.{rules}
 use Rattle.std.proofs.lemmas.Bool.{ne_eqb}
 use Rattle.frame_reader.proofs.call.read_frame_call.Goals as goal
 

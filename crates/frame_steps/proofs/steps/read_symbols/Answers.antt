@@ -1,6 +1,5 @@
 -- `read_symbols`: before each symbol, all before it are accepted, and their steps led to what is carried.
-use Rattle.std.proofs.Common.{◌≡◌, ◌∙◌, sym, ap, inl, inr, arith, rules, List, length, drop, ◌+◌, ◌<◌, ◌≤◌, Ok, Err, Some, None, Option, Result, ℕ, ◌⊎◌, unwrap_or}
-use Rattle.std.specs.Prelude.{Float}
+use Rattle.std.proofs.Common.{◌≡◌, ◌∙◌, sym, ap, inl, inr, arith, rules, List, length, drop, ◌+◌, ◌<◌, ◌≤◌, Ok, Err, Some, None, Option, Result, ℕ, ◌⊎◌, unwrap_or, Float}
 use borrow.Author.Rules.{part_to_end}
 use Rattle.symbols.specs.Symbols.{symbols_of}
 use Rattle.acceptance.specs.declared.accept.StepRefusal.{StepRefusal}

@@ -1,7 +1,5 @@
 -- `subcarrier` goes by the tests of its refusals; where none applies, it answers what is carried.
-use Rattle.std.specs.Prelude.{Ok}
-use mathlib.Core.Path.{◌≡◌, ◌∙◌, sym, ap}
-use mir.Facts.{to_z-of_z}
+use Rattle.std.proofs.Common.{Ok, ◌≡◌, ◌∙◌, sym, ap, to_z-of_z}
 use Rattle.settings.specs.Settings.{check_of}
 use Rattle.settings.proofs.SettingsLaws.{right}
 use Rattle.query.specs.Query.{not_in_frame}

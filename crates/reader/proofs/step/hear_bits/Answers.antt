@@ -1,6 +1,5 @@
 -- `hear_bits` goes by whether inputs exist that give the coded bits.
-use mathlib.Core.Path.{◌∙◌, refl, sym}
-use native.Mathlib.Omega.{arith}
+use Rattle.std.proofs.Common.{◌∙◌, refl, sym, arith}
 use Rattle.reader.proofs.HearLaws.{inputs_asked, inputs_at, frame_asked, sound_by, after_by, bits_heard, bits_refused}
 use Rattle.deinterleaver.specs.Deinterleaved.{label_bit_in}
 use Rattle.settings.specs.Settings.{plan_for}

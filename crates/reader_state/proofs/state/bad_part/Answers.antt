@@ -1,5 +1,5 @@
 -- `bad_part` compares with the power that the payload bits before the symbol leave.
-use native.Mathlib.Omega.{arith}
+use Rattle.std.proofs.Common.{arith}
 use Rattle.reader_state.proofs.StateLaws.{bits_near}
 use Rattle.reader_state.proofs.state.bad_part.Goals as goal
 

@@ -1,5 +1,5 @@
 -- `plan_of` asks for a plan by the numbers of accepted settings.
-use mathlib.Core.Path.{◌∙◌, ap}
+use Rattle.std.proofs.Common.{◌∙◌, ap}
 use Rattle.chain.specs.Plan.{plan_of}
 use Rattle.settings.specs.Settings.{plan_for}
 use Rattle.settings.proofs.settings.plan_of.Goals as goal

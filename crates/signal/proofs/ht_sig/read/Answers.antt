@@ -1,7 +1,5 @@
 -- `read` goes by the tests of its refusals, on the number that the six bytes are.
-use native.Mathlib.Omega.{arith}
-use mathlib.Core.Path.{◌∙◌, sym, refl}
-use mathlib.Core.Bool.{true, false}
+use Rattle.std.proofs.Common.{arith, ◌∙◌, sym, refl, true, false}
 use Rattle.sig_words.specs.Words.{fields_in_word}
 use Rattle.signal.proofs.HtSigLaws.{read_by}
 use Rattle.signal.proofs.ht_sig.read.Goals as goal

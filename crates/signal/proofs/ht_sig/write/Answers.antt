@@ -1,5 +1,5 @@
 -- `write` goes by the tests of its refusals; where none applies, six bytes are written.
-use mathlib.Core.Path.{◌∙◌, sym, ap}
+use Rattle.std.proofs.Common.{◌∙◌, sym, ap}
 use Rattle.settings.specs.Settings.{check_of}
 use Rattle.sig_words.specs.Words.{sig_word}
 use Rattle.settings.proofs.SettingsLaws.{right}

@@ -1,6 +1,5 @@
 -- `use_of` goes by whether the subcarrier has a place.
-use Rattle.std.proofs.Common.{◌≡◌, ◌∙◌, sym, ap}
-use mir.Facts.{to_z-of_z}
+use Rattle.std.proofs.Common.{◌≡◌, ◌∙◌, sym, ap, to_z-of_z}
 use Rattle.subcarriers.specs.Subcarriers.{used_subcarriers, place_found}
 use Rattle.subcarriers.proofs.SubcarrierLaws.{found_below, found_use, lost_silent}
 use Rattle.subcarriers.proofs.layout.use_of.Goals.{After-place_of}

@@ -1,5 +1,5 @@
 -- `two_counts`: demand 3 of the answers that the two calls give.
-use mathlib.Core.Path.{◌∙◌, sym}
+use Rattle.std.proofs.Common.{◌∙◌, sym}
 use Rattle.demands.proofs.Demand3.{same_count}
 use Rattle.two_calls.proofs.two.two_counts.Goals as goal
 

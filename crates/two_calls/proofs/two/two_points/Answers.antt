@@ -1,9 +1,6 @@
 -- `two_points`: demand 3 of the answers and slices that the two calls give.
-use Rattle.std.specs.Prelude.{Result}
+use Rattle.std.proofs.Common.{Result, List, ℕ, Float}
 use Rattle.settings.specs.declared.settings.Refusal.{Refusal}
-use mathlib.Core.List.{List}
-use Prim.Native.Nat.{ℕ}
-use lib.Ieee.{Float}
 use Rattle.settings.specs.declared.settings.RawSettings.{RawSettings}
 use Rattle.demands.specs.Demand3.{SamePoints, LocalPoints, DifferingPoints, SeedPoints, OfPoints}
 use Rattle.demands.proofs.Demand3.{of_points, same_points, local_points, differing_points, seed_points}

@@ -1,6 +1,5 @@
 -- `two_queries`: demand 3 of the answers that the two calls give.
-use mathlib.Core.Path.{◌∙◌, ap}
-use mir.Facts.{to_z-of_z}
+use Rattle.std.proofs.Common.{◌∙◌, ap, to_z-of_z}
 use Rattle.settings.specs.Settings.{check_of}
 use Rattle.query.specs.Query.{query_of}
 use Rattle.demands.specs.Demand3.{SameQuery, LocalQuery}
