@@ -6,7 +6,8 @@ use Rattle.conversions.proofs.Put.{carrier_refused}
 use Rattle.calls.proofs.carrier_call.Goals.{After-subcarrier}
 use Rattle.calls.proofs.carrier_call.Goals as goal
 
-asked : (c : After-subcarrier) → let a = c.args in c.subcarrier.result ≡ query_of (check_of a.raw) a.payload.now a.symbol a.stream a.subcarrier
+asked : (c : After-subcarrier)
+    → let a = c.args in c.subcarrier.result ≡ query_of (check_of a.raw) a.payload.now a.symbol a.stream a.subcarrier
 asked c = c.subcarrier.ensures
     ∙ ap (query_of (check_of c.args.raw) c.args.payload.now c.args.symbol c.args.stream) (to_z-of_z c.ranges.subcarrier)
 

@@ -6,7 +6,11 @@ use Rattle.conversions.proofs.Minus.{pos_fits, pos_is}
 use Rattle.calls.proofs.count_call.Goals as goal
 
 pub overflow_cast-result : goal.overflow_cast-result
-overflow_cast-result c = pos_fits c.in-Ok.symbols (omega (arith, count_few c.args.raw c.in-Ok.symbols (sym c.symbol_count.ensures ∙ c.in-Ok.is)))
+overflow_cast-result c = pos_fits c.in-Ok.symbols (omega (
+  arith,
+  count_few c.args.raw c.in-Ok.symbols (sym c.symbol_count.ensures
+      ∙ c.in-Ok.is),
+))
 
 pub returns-in-Ok : goal.returns-in-Ok
 returns-in-Ok c = let e = sym c.in-Ok.is ∙ c.symbol_count.ensures in

@@ -9,5 +9,6 @@ pub returns : goal.returns
 returns c = let a = c.args in record {
   value = search rules ∙ c.read_frame_call.ensures.value
       ∙ ap (λ (o : OpenSettings). frame_result (read_frame_of o a.points.now (length a.payload.now))) c.open_settings-open.ensures;
-  payload_after = c.read_frame_call.ensures.payload_after ∙ ap (λ (o : OpenSettings). read_frame_into o a.points.now a.payload.now) c.open_settings-open.ensures;
+  payload_after = c.read_frame_call.ensures.payload_after
+      ∙ ap (λ (o : OpenSettings). read_frame_into o a.points.now a.payload.now) c.open_settings-open.ensures;
 }

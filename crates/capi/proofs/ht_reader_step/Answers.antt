@@ -8,5 +8,6 @@ pub returns : goal.returns
 returns c = let a = c.args in record {
   value = search rules ∙ c.step_call.ensures.value
       ∙ ap (λ (o : OpenSettings). pos (step_result o a.state a.points.now (length a.payload.now))) c.open_settings-open.ensures;
-  payload_after = c.step_call.ensures.payload_after ∙ ap (λ (o : OpenSettings). step_result_into o a.state a.points.now a.payload.now) c.open_settings-open.ensures;
+  payload_after = c.step_call.ensures.payload_after
+      ∙ ap (λ (o : OpenSettings). step_result_into o a.state a.points.now a.payload.now) c.open_settings-open.ensures;
 }

@@ -8,6 +8,7 @@ use Rattle.capi.proofs.ht_sig_write.Goals as goal
 
 pub returns : goal.returns
 returns c = let l = c.args.out.now in record {
-  value = search rules ∙ c.sig_write_call.ensures.value ∙ ap (λ (a : RawSettings). written_result (written_of (check_of a) (length l))) c.raw_settings-raw.ensures;
+  value = search rules ∙ c.sig_write_call.ensures.value
+      ∙ ap (λ (a : RawSettings). written_result (written_of (check_of a) (length l))) c.raw_settings-raw.ensures;
   out_after = c.sig_write_call.ensures.out_after ∙ ap (λ (a : RawSettings). written_into (check_of a) l) c.raw_settings-raw.ensures;
 }

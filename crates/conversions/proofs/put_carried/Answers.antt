@@ -10,9 +10,15 @@ returns-in-Silent c = let e = sym c.in-Silent.is in
     (ap (λ (k : Carried). pos (carried_number k)) e, ap (λ (k : Carried). carried_into k c.args.out.now) e)
 
 pub returns-in-Pilot : goal.returns-in-Pilot
-returns-in-Pilot c = let e = sym c.in-Pilot.is in
-    (ap (λ (k : Carried). pos (carried_number k)) e, one_put c.args.out.now _ c.requires ∙ ap (λ (k : Carried). carried_into k c.args.out.now) e)
+returns-in-Pilot c = let e = sym c.in-Pilot.is in (
+  ap (λ (k : Carried). pos (carried_number k)) e,
+  one_put c.args.out.now _ c.requires
+      ∙ ap (λ (k : Carried). carried_into k c.args.out.now) e,
+)
 
 pub returns-in-Data : goal.returns-in-Data
-returns-in-Data c = let e = sym c.in-Data.is in
-    (ap (λ (k : Carried). pos (carried_number k)) e, two_put c.args.out.now _ _ c.requires ∙ ap (λ (k : Carried). carried_into k c.args.out.now) e)
+returns-in-Data c = let e = sym c.in-Data.is in (
+  ap (λ (k : Carried). pos (carried_number k)) e,
+  two_put c.args.out.now _ _ c.requires
+      ∙ ap (λ (k : Carried). carried_into k c.args.out.now) e,
+)

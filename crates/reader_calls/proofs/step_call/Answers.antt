@@ -13,10 +13,12 @@ returns-then-no_state c = let w = step_none c.args.settings c.args.state c.args.
     }
 
 pub stepped_number-requires : goal.stepped_number-requires
-stepped_number-requires c = step_held c.args.settings c.args.state c.args.points.now c.reader_of.result c.step-stepped.result _ c.reader_of.ensures c.step-stepped.ensures.value
+stepped_number-requires c = step_held c.args.settings c.args.state c.args.points.now c.reader_of.result c.step-stepped.result _
+    c.reader_of.ensures c.step-stepped.ensures.value
 
 pub returns : goal.returns
-returns c = let w = step_some c.args.settings c.args.state c.args.points.now c.args.payload.now _ c.reader_of.result c.step-stepped.result c.stepped_number.result c.if-no_state.false-raw
+returns c = let w = step_some c.args.settings c.args.state c.args.points.now c.args.payload.now _ c.reader_of.result c.step-stepped.result
+    c.stepped_number.result c.if-no_state.false-raw
     c.reader_of.ensures c.step-stepped.ensures.value c.step-stepped.ensures.payload_after c.stepped_number.ensures.0 in
     record {
       value = to_z_pos w64 {n = c.stepped_number.result} (omega (arith, c.stepped_number.ensures.1)) ∙ ap pos w.0;

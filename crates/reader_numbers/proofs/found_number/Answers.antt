@@ -6,6 +6,7 @@ use Rattle.reader_numbers.proofs.found_number.Goals as goal
 pub returns : goal.returns
 returns c = (
   ap (λ (k : ℕ). pos (256 * k + (c.index.result + 64))) c.from.ensures
-      ∙ place_number_is c.args.stream c.index.result c.args.subcarrier (c.index.ensures.0 ∙ to_z-of_z c.ranges.subcarrier) c.index.ensures.1,
+      ∙ place_number_is c.args.stream c.index.result c.args.subcarrier (c.index.ensures.0
+      ∙ to_z-of_z c.ranges.subcarrier) c.index.ensures.1,
   omega (arith, c.from.ensures, c.index.ensures.1),
 )

@@ -21,7 +21,8 @@ found c =
 
 pub found_number-requires : goal.found_number-requires
 found_number-requires c = let z = c.in-Ok-Some.z in
-    inside_as {z = z} (to_z w32 (of_z w32 z)) (search rules) (subst PlaceRight (found (goal.at.found_number-requires c).In-Ok-Some) c.requires)
+    inside_as {z = z} (to_z w32 (of_z w32 z)) (search rules) (subst PlaceRight (found (goal.at.found_number-requires c).In-Ok-Some)
+    c.requires)
 
 pub returns-in-Ok-None : goal.returns-in-Ok-None
 returns-in-Ok-None c =

@@ -8,4 +8,5 @@ pub overflow_add-next : goal.overflow_add-next
 overflow_add-next c = omega (arith, symbol_few c.args.s c.requires.right _ c.requires.below_count)
 
 pub returns : goal.returns
-returns c = moved_by c.args.s c.plan_of-plan.result c.plan_of-plan.ensures c.args.reader c.args.histories _ c.args.scrambler _ c.args.part c.symbols_of.ensures c.jump.ensures
+returns c = moved_by c.args.s c.plan_of-plan.result c.plan_of-plan.ensures c.args.reader c.args.histories _ c.args.scrambler _ c.args.part
+    c.symbols_of.ensures c.jump.ensures

@@ -15,7 +15,8 @@ pub overflow_mul-bits : goal.overflow_mul-bits
 overflow_mul-bits c = omega (arith, shift_few c.args.plan c.requires.fits c.args.i c.requires.stream _ c.axis_bits-axis.ensures)
 
 pub halves_of-first-requires : goal.halves_of-first-requires
-halves_of-first-requires c = rotated_few c.args.plan c.requires.fits c.args.i c.requires.stream _ (omega (arith, c.rotated_carriers.ensures))
+halves_of-first-requires c = rotated_few c.args.plan c.requires.fits c.args.i c.requires.stream _
+    (omega (arith, c.rotated_carriers.ensures))
 
 pub overflow_sub-rest : goal.overflow_sub-rest
 overflow_sub-rest c = omega (arith, turn (goal.at.overflow_sub-rest c).After-halves_of-first)

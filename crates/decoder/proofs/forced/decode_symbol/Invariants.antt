@@ -5,4 +5,5 @@ use Rattle.decoder.proofs.EncoderLaws.{Passed}
 use Rattle.decoder.proofs.forced.decode_symbol.Given as goal
 
 abbrev pub invariant-loop-j : goal.invariant-loop-j
-invariant-loop-j l = Passed (histories_in l.histories) (coded_of l.coded) l.encoders l.kept l.groups l.j l.after l.wrong l.initial.inputs l.inputs
+invariant-loop-j l = Passed (histories_in l.histories) (coded_of l.coded) l.encoders l.kept l.groups l.j l.after l.wrong l.initial.inputs
+    l.inputs

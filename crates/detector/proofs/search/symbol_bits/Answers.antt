@@ -30,7 +30,8 @@ loop-f-preserved c = (
   c.loop-f.invariant.0,
   λ d rows.
       places_more c.args.plan c.args.points.now c.args.format c.args.n c.requires.fits c.streams.i c.loop-f.f d
-      c.loop-f.bits _ (omega (arith, c.loop-f-test.true, c.places_of-places.ensures)) (c.loop-f.invariant.1 d rows) c.hear_place.ensures.heard
+      c.loop-f.bits _ (omega (arith, c.loop-f-test.true, c.places_of-places.ensures)) (c.loop-f.invariant.1 d rows)
+      c.hear_place.ensures.heard
       (sym (c.hear_place.ensures.given c.args.format c.polarity_bit.ensures.0) ∙ c.if-not-hear_place.false),
 )
 
@@ -50,6 +51,7 @@ returns-after-streams c =
 pub returns-then-not-hear_place : goal.returns-then-not-hear_place
 returns-then-not-hear_place c =
     let r = answer_at_lem c.args.plan c.args.points.now c.args.format c.args.n c.requires.fits c.streams.i c.loop-f.f _ c.loop-f.bits _
-    c.streams-test.true (omega (arith, c.loop-f-test.true, c.places_of-places.ensures)) (c.loop-f.invariant.1 c.args.bits.now c.streams.invariant.1)
+    c.streams-test.true (omega (arith, c.loop-f-test.true, c.places_of-places.ensures))
+    (c.loop-f.invariant.1 c.args.bits.now c.streams.invariant.1)
     c.hear_place.ensures.heard (sym (c.hear_place.ensures.given c.args.format c.polarity_bit.ensures.0) ∙ c.if-not-hear_place.true) in
     record { value = r.0; bits_shown = r.1 }

@@ -29,7 +29,8 @@ bounds-uses-run c =
 
 pub returns-in-Some : goal.returns-in-Some
 returns-in-Some c =
-    run_piloted c.args.width c.args.r c.run_of-run.result c.run_of-run.ensures c.requires.1.0 c.requires.1.1 _ _ c.in-Some.pilot c.requires.0
+    run_piloted c.args.width c.args.r c.run_of-run.result c.run_of-run.ensures c.requires.1.0 c.requires.1.1 _ _ c.in-Some.pilot
+    c.requires.0
     c.in-Some.is c.put_carriers.ensures
 
 pub returns-in_default : goal.returns-in_default

@@ -9,8 +9,11 @@ use Rattle.frame.proofs.points.points.Goals as goal
 pub returns : goal.returns
 returns c =
     let accepted : check_of c.args.raw ≡ Ok c.in-Ok.s = sym c.check-checked.ensures ∙ c.in-Ok.is in
-    let past_is : (b : Bool) → leb c.symbols_of.result c.args.symbol ≡ b → leb (symbols_of c.in-Ok.s) c.args.symbol ≡ b = λ b e. ap (λ (k : ℕ). leb k c.args.symbol) (sym c.symbols_of.ensures) ∙ e in
-    let small_is : (b : Bool) → ltb (length c.args.out.now) c.floats_of-floats.result ≡ b → ltb (length c.args.out.now) (floats_of c.in-Ok.s) ≡ b = λ b e. ap (λ (k : ℕ). ltb (length c.args.out.now) k) (sym c.floats_of-floats.ensures.0) ∙ e in
+    let past_is : (b : Bool) → leb c.symbols_of.result c.args.symbol ≡ b
+    → leb (symbols_of c.in-Ok.s) c.args.symbol ≡ b = λ b e. ap (λ (k : ℕ). leb k c.args.symbol) (sym c.symbols_of.ensures) ∙ e in
+    let small_is : (b : Bool) → ltb (length c.args.out.now) c.floats_of-floats.result ≡ b
+    → ltb (length c.args.out.now) (floats_of c.in-Ok.s) ≡ b = λ b e. ap (λ (k : ℕ). ltb (length c.args.out.now) k)
+    (sym c.floats_of-floats.ensures.0) ∙ e in
     let a = c.args in
     let r =
     points_written c.in-Ok.s a.payload.now a.symbol a.out.now (check_of a.raw) _ (accepted)

@@ -23,7 +23,8 @@ floats_of-requires c = asked_right c.args.s c.args.reader c.args.points.now c.ar
 
 pub read_symbols-requires : goal.read_symbols-requires
 read_symbols-requires c = symbols_asked c.args.s c.args.reader c.args.points.now c.args.payload.now c.requires.0
-    _ (omega (arith, holds (goal.at.read_symbols-requires c).Start, c.requires.0.whole_payload)) _ _ c.symbols_of.ensures c.floats_of.ensures.0
+    _ (omega (arith, holds (goal.at.read_symbols-requires c).Start, c.requires.0.whole_payload)) _ _ c.symbols_of.ensures
+    c.floats_of.ensures.0
 
 pub returns : goal.returns
 returns c =

@@ -19,11 +19,13 @@ room : (c : In-loop-n) → c.loop-n.at + c.args.floats ≤ length c.args.points.
 room c = inside c.args.reader c.args.count c.args.floats c.args.points.now c.args.payload.now c.requires
     c.loop-n.n c.loop-n.payload c.loop-n.state c.loop-n.seed c.loop-n.at c.loop-n.invariant (below c)
 
-stepped : (c : After-step-stepped) → c.step-stepped.result ≡ step_of c.loop-n.state (drop c.loop-n.at c.args.points.now) (length c.loop-n.payload)
+stepped : (c : After-step-stepped)
+    → c.step-stepped.result ≡ step_of c.loop-n.state (drop c.loop-n.at c.args.points.now) (length c.loop-n.payload)
 stepped c = c.step-stepped.ensures.value
     ∙ ap (λ (p : List Float). step_of c.loop-n.state p (length c.loop-n.payload)) (part_to_end c.args.points.now c.loop-n.at)
 
-left : (c : After-step-stepped) → c.step-stepped.new.payload ≡ step_into c.loop-n.state (drop c.loop-n.at c.args.points.now) c.loop-n.payload
+left : (c : After-step-stepped)
+    → c.step-stepped.new.payload ≡ step_into c.loop-n.state (drop c.loop-n.at c.args.points.now) c.loop-n.payload
 left c = c.step-stepped.ensures.payload_after
     ∙ ap (λ (p : List Float). step_into c.loop-n.state p c.loop-n.payload) (part_to_end c.args.points.now c.loop-n.at)
 
@@ -88,4 +90,5 @@ loop-n-preserved c = let at = goal.at.loop-n-preserved c in
 
 pub returns : goal.returns
 returns c = read_all c.args.reader c.args.count c.args.floats c.args.points.now c.args.payload.now c.requires
-    c.loop-n.n c.loop-n.payload c.loop-n.state c.loop-n.seed c.loop-n.at c.loop-n.invariant (omega (arith, c.loop-n-test.false, c.requires.counted))
+    c.loop-n.n c.loop-n.payload c.loop-n.state c.loop-n.seed c.loop-n.at c.loop-n.invariant
+    (omega (arith, c.loop-n-test.false, c.requires.counted))

@@ -11,7 +11,8 @@ use Rattle.modulator.proofs.symbol.symbol_points.Goals.{After-places_of-floats}
 use Rattle.modulator.proofs.symbol.symbol_points.Goals as goal
 
 pub level_table-table-requires : goal.level_table-table-requires
-level_table-table-requires c = subst (λ (s : ℕ). T (among axis_counts s)) (sym c.axis_bits-s.ensures) (axis_known c.args.plan.bits c.requires.fits.bits)
+level_table-table-requires c = subst (λ (s : ℕ). T (among axis_counts s)) (sym c.axis_bits-s.ensures)
+    (axis_known c.args.plan.bits c.requires.fits.bits)
 
 pub nonzero_div-count : goal.nonzero_div-count
 nonzero_div-count c = omega (arith, axis_some c.args.plan.bits c.requires.fits.bits, c.axis_bits-s.ensures)
@@ -27,7 +28,8 @@ pub put_points-requires : goal.put_points-requires
 put_points-requires c =
     let at = (goal.at.put_points-requires c).After-places_of-floats in
     let tabled = subst (λ (s : ℕ). LevelTable s c.level_table-table.result) c.axis_bits-s.ensures c.level_table-table.ensures in
-    let asked = stream_asked _ c.args.out.now _ _ _ c.requires c.loop-i.invariant.same tabled (omega arith) refl refl (floats_are at) (count_is at) in
+    let asked = stream_asked _ c.args.out.now _ _ _ c.requires c.loop-i.invariant.same tabled (omega arith) refl refl (floats_are at)
+    (count_is at) in
     (asked, c.polarity_bit-polarity.ensures.1)
 
 pub loop-i-preserved : goal.loop-i-preserved

@@ -19,14 +19,17 @@ pub pilot_at-requires : goal.pilot_at-requires
 pilot_at-requires c =
     let f = c.requires.0 in
     let q = pilot_in c.args.s f.right c.args.subcarrier c.requires.1.1 c.in-Pilot.q
-        (found (goal.at.pilot_at-requires c).After-use_of-used ∙ c.in-Pilot.is) in
+    (found (goal.at.pilot_at-requires c).After-use_of-used ∙ c.in-Pilot.is) in
     (f.right, (symbol_near c.args.s c.args.n f.right f.below_count, (c.requires.1.0, q)))
 
 pub point_at-requires : goal.point_at-requires
 point_at-requires c = (
   c.requires.0,
-  (c.requires.1.0, data_in c.args.s c.requires.0.right c.args.subcarrier c.requires.1.1 c.in-Data.c
-      (found (goal.at.point_at-requires c).After-use_of-used ∙ c.in-Data.is)),
+  (
+    c.requires.1.0,
+    data_in c.args.s c.requires.0.right c.args.subcarrier c.requires.1.1 c.in-Data.c
+        (found (goal.at.point_at-requires c).After-use_of-used ∙ c.in-Data.is),
+  ),
 )
 
 pub returns-in-Silent : goal.returns-in-Silent

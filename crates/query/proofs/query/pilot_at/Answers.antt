@@ -10,4 +10,5 @@ pilot_sign-requires c = record {
 
 pub returns : goal.returns
 returns c = let a = c.args in
-    pilot_is a.s c.plan_of-plan.result a.n a.i a.q c.polarity_bit-polarity.result _ c.plan_of-plan.ensures c.polarity_bit-polarity.ensures.0 c.pilot_sign.ensures
+    pilot_is a.s c.plan_of-plan.result a.n a.i a.q c.polarity_bit-polarity.result _ c.plan_of-plan.ensures c.polarity_bit-polarity.ensures.0
+    c.pilot_sign.ensures

@@ -27,7 +27,8 @@ is_closed-requires c = settings_right (goal.at.is_closed-requires c).In-Ok
 
 pub returns-then-is_closed : goal.returns-then-is_closed
 returns-then-is_closed c =
-    let told = step_as c.args.reader c.args.points.now c.args.payload.now (Ok c.in-Ok.s) (settings (goal.at.returns-then-is_closed c).In-Ok) _ _
+    let told = step_as c.args.reader c.args.points.now c.args.payload.now (Ok c.in-Ok.s) (settings (goal.at.returns-then-is_closed c).In-Ok)
+    _ _
     (step_by_lem c.in-Ok.s c.args.reader c.args.points.now _ true _ (sym c.if-is_closed.true ∙ c.is_closed.ensures) refl) refl in
     record { value = c.refused-then-is_closed.ensures ∙ told.0; payload_after = told.1 }
 

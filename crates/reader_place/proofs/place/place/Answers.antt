@@ -42,7 +42,8 @@ pub returns-then-points-floats_of : goal.returns-then-points-floats_of
 returns-then-points-floats_of c = let at = goal.at.returns-then-points-floats_of c in
     place_as c.args.reader c.args.points.now _ (settings at.In-Ok) _
     (place_by_lem c.in-Ok.s c.args.reader c.args.points.now false true (going at.Else-is_closed)
-    (sym (lt-ltb (length c.args.points.now) (floats_of c.in-Ok.s) (omega (arith, c.if-points-floats_of.true, c.floats_of.ensures.0)))) _ refl)
+    (sym (lt-ltb (length c.args.points.now) (floats_of c.in-Ok.s) (omega (arith, c.if-points-floats_of.true, c.floats_of.ensures.0)))) _
+    refl)
 
 pub plan_of-requires : goal.plan_of-requires
 plan_of-requires c = settings_right (goal.at.plan_of-requires c).In-Ok
@@ -50,7 +51,8 @@ plan_of-requires c = settings_right (goal.at.plan_of-requires c).In-Ok
 pub symbol_bits-found-requires : goal.symbol_bits-found-requires
 symbol_bits-found-requires c = let at = goal.at.symbol_bits-found-requires c in
     points_asked c.in-Ok.s c.args.reader c.plan_of.result c.plan_of.ensures _ _ (settings_right at.In-Ok)
-    (in_range c.in-Ok.s c.args.reader (sym (going at.Else-is_closed))) (omega (arith, c.if-points-floats_of.false, c.floats_of.ensures.0)) (omega arith)
+    (in_range c.in-Ok.s c.args.reader (sym (going at.Else-is_closed))) (omega (arith, c.if-points-floats_of.false, c.floats_of.ensures.0))
+    (omega arith)
 
 pub overflow_cast-result : goal.overflow_cast-result
 overflow_cast-result c = let at = goal.at.overflow_cast-result c in
@@ -66,7 +68,8 @@ subcarrier_of-requires c = let at = goal.at.subcarrier_of-requires c in record {
 }
 
 -- the answer by what the search found
-placed : (c : After-symbol_bits-found) → Ok c.in-Ok.s ≡ check_of (open_raw c.args.reader.settings) → false ≡ closed_of c.in-Ok.s c.args.reader
+placed : (c : After-symbol_bits-found) → Ok c.in-Ok.s ≡ check_of (open_raw c.args.reader.settings)
+    → false ≡ closed_of c.in-Ok.s c.args.reader
     → (found : Option (ℕ × ℕ)) → found ≡ c.symbol_bits-found.result → found_as found c.in-Ok.s ≡ place_of c.args.reader c.args.points.now
 placed c accepted going_on found e = let s = c.in-Ok.s in
     place_as c.args.reader c.args.points.now (Ok s) accepted _

@@ -16,7 +16,7 @@ returns-then-past c = closed_past c.args.s c.args.reader
 pub bad_part-requires : goal.bad_part-requires
 bad_part-requires c =
     let within = (or_false c.args.reader.ended (leb (symbols_of c.args.s) c.args.reader.symbol)
-        (going (goal.at.bad_part-requires c).Else-past)).1 in
+    (going (goal.at.bad_part-requires c).Else-past)).1 in
     (c.requires, symbol_few c.args.s c.requires _ (leb-false _ _ within))
 
 pub returns : goal.returns

@@ -6,8 +6,10 @@ use Rattle.subcarriers.proofs.layout.subcarrier_of.Goals as goal
 
 pub returns : goal.returns
 returns c = elim c.if-f-half.branch [
-  | then-f-half w ↦ lower_number c.args.width c.args.f _ c.if-width-eq40.half c.requires.t c.requires.f_bound shifts w.if-f-half.true w.shift-is
-  | else-f-half w ↦ upper_number c.args.width c.args.f _ c.if-width-eq40.half c.requires.t c.requires.f_bound shifts w.if-f-half.false w.shift-is
+  | then-f-half w ↦ lower_number c.args.width c.args.f _ c.if-width-eq40.half c.requires.t c.requires.f_bound shifts w.if-f-half.true
+      w.shift-is
+  | else-f-half w ↦ upper_number c.args.width c.args.f _ c.if-width-eq40.half c.requires.t c.requires.f_bound shifts w.if-f-half.false
+      w.shift-is
 ]
   where
     shifts : c.if-width-eq40.half ≡ signed_shifts c.args.width

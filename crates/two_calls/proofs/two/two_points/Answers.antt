@@ -8,7 +8,8 @@ use Rattle.two_calls.proofs.two.two_points.Goals as goal
 
 pub returns : goal.returns
 returns c = let a = c.args in
-    let told : (Sentence : (a a' : RawSettings) (p q : List ℕ) (n : ℕ) (out out' : List Float) (r r' : Result ℕ Refusal) (l l' : List Float) → Type 0) (term : OfPoints Sentence)
+    let told : (Sentence : (a a' : RawSettings) (p q : List ℕ) (n : ℕ) (out out' : List Float) (r r' : Result ℕ Refusal) (l l' : List Float)
+    → Type 0) (term : OfPoints Sentence)
     → Sentence a.raw a.other_raw a.payload.now a.other_payload.now a.symbol a.out.now a.other_out.now _ _ _ _
     = λ Sentence term.
     of_points Sentence term a.raw a.other_raw a.payload.now a.other_payload.now a.symbol a.out.now a.other_out.now _ _ _ _

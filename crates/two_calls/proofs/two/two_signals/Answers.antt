@@ -6,5 +6,6 @@ pub returns : goal.returns
 returns c = record {
   made = (c.write-one.ensures.0, c.write-other.ensures.0);
   left = (c.write-one.ensures.1, c.write-other.ensures.1);
-  alike = of_signals c.args.raw c.args.other_raw c.args.out.now c.args.other_out.now _ _ _ _ c.write-one.ensures.0 c.write-other.ensures.0 c.write-one.ensures.1 c.write-other.ensures.1;
+  alike = of_signals c.args.raw c.args.other_raw c.args.out.now c.args.other_out.now _ _ _ _ c.write-one.ensures.0 c.write-other.ensures.0
+      c.write-one.ensures.1 c.write-other.ensures.1;
 }
