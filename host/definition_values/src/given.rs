@@ -1,7 +1,7 @@
 //! The text of the module that every crate has: what the definitions give, as lists of numbers, and when two such lists agree.
 
 pub const GIVEN: &str = r#"-- What the definitions give, as lists of numbers, and when two such lists agree.
-use Rattle.std.specs.Prelude.{Bool, cond, List, [], ◌∷◌, ◌++◌, ℕ, ℤ, length, get_or, Float}
+use Rattle.std.specs.Prelude.{Bool, cond, List, [], ◌∷◌, ◌++◌, ℕ, ℤ, length, get_or, Float, Err, Ok, Result}
 use Rattle.std.specs.Float.{binary32}
 use Rattle.std.specs.Float.Ieee.{to_bits}
 use Rattle.laws.specs.Claim.{Claim, ◌is◌, ◌and◌}
@@ -13,14 +13,11 @@ use Rattle.chain.specs.Parser.{encoder_of, index_of, stream_of, bit_of}
 use Rattle.chain.specs.Interleaver.{place, source, source_form}
 use Rattle.chain.specs.Labels.{coded_bit, stream_bit, label_bit}
 use Rattle.settings.specs.declared.settings.RawSettings.{RawSettings}
+use Rattle.settings.specs.declared.settings.Refusal.{Refusal}
 use Rattle.settings.specs.declared.settings.Settings.{Settings}
 use Rattle.settings.specs.Settings.{number_of, check_of, plan_for}
-use Rattle.symbols.specs.declared.count.Count.{Count}
-use Rattle.symbols.specs.declared.count.Count.TheVariants.{Symbols, Refused as CountRefused}
 use Rattle.symbols.specs.Symbols.{count_of}
 use Rattle.sig_words.specs.declared.words.SigFields.{SigFields}
-use Rattle.signal.specs.declared.ht_sig.SigRead.{SigRead}
-use Rattle.signal.specs.declared.ht_sig.SigRead.TheVariants.{Fields, Refused as ReadRefused}
 use Rattle.signal.specs.HtSig.{written_of, written_number, written_into, read_of}
 use Rattle.mapper.specs.declared.point.Point.{Point}
 use Rattle.mapper.specs.Levels.{level_of}
@@ -28,13 +25,9 @@ use Rattle.subcarriers.specs.declared.layout.Use.{Use}
 use Rattle.subcarriers.specs.declared.layout.Use.TheVariants.{Silent as Unused, Pilot as PilotAt, Data as DataAt}
 use Rattle.subcarriers.specs.Subcarriers.{use_of, subcarrier_at}
 use Rattle.pilots.specs.Pilots.{pilot_sign}
-use Rattle.frame.specs.declared.points.PointsAnswer.{PointsAnswer}
-use Rattle.frame.specs.declared.points.PointsAnswer.TheVariants.{Written, Refused as PointsRefused}
 use Rattle.frame.specs.Points.{input_of, labels_of, point_float, points_of}
 use Rattle.query.specs.declared.query.Carried.{Carried}
 use Rattle.query.specs.declared.query.Carried.TheVariants.{Silent, Pilot, Data}
-use Rattle.query.specs.declared.query.QueryAnswer.{QueryAnswer}
-use Rattle.query.specs.declared.query.QueryAnswer.TheVariants.{Carries, Refused as QueryRefused}
 use Rattle.query.specs.Query.{query_of, carried_point}
 
 -- two lists number by number; lists of unequal lengths do not agree
@@ -85,9 +78,9 @@ floats_at s payload n gs = at_each (λ g. bits (point_float s payload n g)) gs
 
 -- ---- the answers of the calls: the refusal's number, or 0 and what is given
 
-abbrev pub points_answered : PointsAnswer → List ℕ
-points_answered (Written count) = 0 ∷ (count ∷ [])
-points_answered (PointsRefused r) = number_of r ∷ []
+abbrev pub points_answered : Result ℕ Refusal → List ℕ
+points_answered (Ok count) = 0 ∷ (count ∷ [])
+points_answered (Err r) = number_of r ∷ []
 
 abbrev pub points_at : RawSettings → (bytes symbol room : ℕ) → List ℕ
 points_at a bytes symbol room = points_answered (points_of (check_of a) bytes symbol room)
@@ -97,16 +90,16 @@ kind_of Silent = 0
 kind_of (Pilot sign) = 1
 kind_of (Data p) = 2
 
-abbrev pub question_answered : QueryAnswer → List ℕ
-question_answered (Carries c) = 0 ∷ (kind_of c ∷ (bits (carried_point c).first ∷ (bits (carried_point c).second ∷ [])))
-question_answered (QueryRefused r) = number_of r ∷ []
+abbrev pub question_answered : Result Carried Refusal → List ℕ
+question_answered (Ok c) = 0 ∷ (kind_of c ∷ (bits (carried_point c).first ∷ (bits (carried_point c).second ∷ [])))
+question_answered (Err r) = number_of r ∷ []
 
 abbrev pub question_at : RawSettings → (payload : List ℕ) (symbol stream : ℕ) (z : ℤ) → List ℕ
 question_at a payload symbol stream z = question_answered (query_of (check_of a) payload symbol stream z)
 
-abbrev pub count_answered : Count → List ℕ
-count_answered (Symbols n) = 0 ∷ (n ∷ [])
-count_answered (CountRefused r) = number_of r ∷ []
+abbrev pub count_answered : Result ℕ Refusal → List ℕ
+count_answered (Ok n) = 0 ∷ (n ∷ [])
+count_answered (Err r) = number_of r ∷ []
 
 abbrev pub count_at : RawSettings → List ℕ
 count_at a = count_answered (count_of (check_of a))
@@ -118,9 +111,9 @@ abbrev pub field_numbers : SigFields → List ℕ
 field_numbers g =
     g.width ∷ (g.mcs ∷ (g.length ∷ (flag g.smoothing ∷ (flag g.not_sounding ∷ (flag g.aggregation ∷ (flag g.short_guard ∷ []))))))
 
-abbrev pub signal_read : SigRead → List ℕ
-signal_read (Fields g) = 0 ∷ field_numbers g
-signal_read (ReadRefused r) = number_of r ∷ []
+abbrev pub signal_read : Result SigFields Refusal → List ℕ
+signal_read (Ok g) = 0 ∷ field_numbers g
+signal_read (Err r) = number_of r ∷ []
 
 abbrev pub signal_read_at : (sig : List ℕ) → List ℕ
 signal_read_at sig = signal_read (read_of sig)
@@ -182,11 +175,12 @@ pilots_at width streams format n i qs = at_each (λ q. counted (pilot_sign width
 
 /// The same for the reader.
 pub const READER_GIVEN: &str = r#"-- What the reader's definitions give, as lists of numbers.
-use Rattle.std.specs.Prelude.{List, [], ◌∷◌, ℕ, ◌+◌, ◌*◌, get_or, Float}
+use Rattle.std.specs.Prelude.{List, [], ◌∷◌, ℕ, ℤ, ◌+◌, ◌*◌, get_or, Float, Err, None, Ok, Option, Result, Some}
 use Rattle.std.specs.Float.{binary32}
 use Rattle.std.specs.Float.Ieee.{of_bits}
 use Rattle.laws.specs.Integers.{counted}
 use Rattle.chain.specs.Decoder.{coded_after, forced_input, coded_in}
+use Rattle.settings.specs.declared.settings.Refusal.{Refusal}
 use Rattle.settings.specs.declared.settings.Settings.{Settings}
 use Rattle.settings.specs.Settings.{number_of, plan_for}
 use Rattle.detector.specs.Detected.{shown_bit}
@@ -196,8 +190,6 @@ use Rattle.reader_state.specs.State.{start_of, start_number, history_of}
 use Rattle.acceptance.specs.declared.accept.Stepped.{Stepped}
 use Rattle.acceptance.specs.Accepted.{bytes_into, step_into_by, by_frame}
 use Rattle.reader.specs.Step.{heard_input, by_code, step_of, step_number, step_seed, step_stream, step_subcarrier}
-use Rattle.reader_place.specs.declared.place.PlaceAnswer.{PlaceAnswer}
-use Rattle.reader_place.specs.declared.place.PlaceAnswer.TheVariants.{Passed, Found, Refused as PlaceRefused}
 use Rattle.reader_place.specs.Place.{place_of}
 use Rattle.CRATE.specs.Given.{at_each, flag}
 
@@ -226,10 +218,10 @@ abbrev pub step_at : Reader → (points : List ℕ) (bytes : ℕ) → List ℕ
 step_at st points bytes = stepped_numbers (step_of st (floats_in points) bytes)
 
 -- the place of the first point that is none
-abbrev pub place_numbers : PlaceAnswer → List ℕ
-place_numbers Passed = 0 ∷ []
-place_numbers (Found i z) = 9 ∷ (i ∷ (counted z ∷ []))
-place_numbers (PlaceRefused r) = number_of r ∷ []
+abbrev pub place_numbers : Result (Option (ℕ × ℤ)) Refusal → List ℕ
+place_numbers (Ok None) = 0 ∷ []
+place_numbers (Ok (Some (i, z))) = 9 ∷ (i ∷ (counted z ∷ []))
+place_numbers (Err r) = number_of r ∷ []
 
 abbrev pub first_wrong_at : Reader → (points : List ℕ) → List ℕ
 first_wrong_at st points = place_numbers (place_of st (floats_in points))
