@@ -1,6 +1,6 @@
 -- Labels from floats: what the tables of keys give is what the search among the levels gives. Assumes nothing.
 use mathlib.Core.Path.{◌≡◌, ◌∙◌, sym, ap, subst}
-use mathlib.Core.Bool.{Bool, true, cond}
+use mathlib.Core.Bool.{Bool, true, false, cond, not}
 use mathlib.Core.List.{List}
 use mathlib.Core.Logic.{⊎_elim}
 use Prim.Native.Nat.{ℕ, ◌+◌, ◌/◌, ◌^◌, ◌<◌, ◌≤◌}
@@ -10,7 +10,8 @@ use borrow.Author.Tests.{lt-ltb, le-ltb}
 use lib.Dec.{T, ltb}
 use lib.ListN.{length, get_or}
 use lib.IntN.{ℤ, neg_ℤ}
-use lib.Ieee.{Float, nan, inf, fin, binary32, of_int, to_bits, is_nan}
+use lib.Ieee.{Float, nan, inf, fin, ne, binary32, of_int, to_bits, is_nan}
+use lib.Ieee.Compare.{differs_from_itself}
 use Rattle.chain.specs.Plan.{axis_counts}
 use Rattle.laws.specs.Test.{among}
 use Rattle.laws.specs.Claim.{Claim, ◌is◌, ◌under◌, ◌and◌, up_to, each, given, Holds, sound}
@@ -23,12 +24,16 @@ use Rattle.demapper.specs.Demapped.{level_label, negated_label}
 use Rattle.demapper.specs.Asked.{key_of, level_keys, label_keys, Tables, flipped}
 use Rattle.laws.proofs.Least.{Found, found_is, first_found}
 
--- a NaN has the NaN's pattern
-pub nan_bits : (x : Float) (t : Bool) → t ≡ is_nan x → t ≡ true → 0x7fc00000 ≡ to_bits binary32 x
-unfolding is_nan to_bits
-nan_bits nan t e h = λ i. 0x7fc00000
-nan_bits (inf s) t e h = absurd (true_not_false (sym h ∙ e))
-nan_bits (fin s m k) t e h = absurd (true_not_false (sym h ∙ e))
+-- a float that does not differ from itself is no NaN, and one that does has the NaN's pattern
+pub real : (x : Float) → ne x x ≡ false → T (not (is_nan x))
+unfolding ne is_nan
+real nan e = absurd (true_not_false e)
+real (inf s) e = tt
+real (fin s m k) e = tt
+
+pub nan_bits : (x : Float) → ne x x ≡ true → to_bits binary32 x ≡ 0x7fc00000
+unfolding to_bits
+nan_bits x e = ap (to_bits binary32) (differs_from_itself x (subst T (sym e) tt))
 
 -- the bits of the level of a label, and of its negative
 abbrev pub level_bits : (s label : ℕ) → ℕ

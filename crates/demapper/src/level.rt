@@ -11,7 +11,7 @@ ghost use Rattle.demapper.specs.Asked.{key_of, level_keys, label_keys, Tables, f
 pub fn bits_of(x: f32) -> u32
     ensures { result ≡ to_bits binary32 x }
 {
-    if x.is_nan() {
+    if x != x {
         return 0x7fc00000;
     }
     x.to_bits()
