@@ -1,5 +1,7 @@
 // Text in a fixed row of 40 bytes.
-ghost use Rattle.std.specs.Prelude.{◌≡◌, List, [], ◌∷◌, ◌++◌, ℕ, ◌+◌, ◌*◌, ◌<◌, ◌≤◌, length, take};
+ghost use Rattle.std.specs.Prelude.{◌≡◌, List, [], ◌∷◌, ◌++◌, ℕ, ◌+◌, ◌*◌, ◌<◌, ◌≤◌, ◌-◌, length, take, replicate};
+ghost use Rattle.std.proofs.Common.{ap₂, ap, sym, arith, length-take, length-append};
+ghost use Rattle.std.proofs.lemmas.List.{length-replicate};
 ghost use Rattle.text.specs.Printing.{header_text, too_long_text, row_holding, hex_digit, hex_bytes, digit_if, decimal};
 
 use std::marker::Model;
@@ -21,7 +23,7 @@ pub fn too_long_text() -> [u8; 9]
 }
 
 // The text is the first `len` bytes; the others are 0. Clauses see the text.
-#[derive(Drop)]
+#[derive(Clone, Copy)]
 pub struct Row {
     bytes: [u8; 40],
     len: usize,
@@ -33,6 +35,12 @@ impl Model for Row {
     ghost view = { λ r. take r.len r.bytes };
 
     ghost invariant = { λ r. (r.len ≤ 40) × (r.bytes ≡ row_holding (take r.len r.bytes)) };
+
+    ghost inverse = { λ text. record { bytes = row_holding text; len = length text } };
+
+    ghost inverse_ok = { λ r h. let t = take r.len r.bytes in let held = length-append t (replicate (40 - length t) 0) in
+        let zeros = length-replicate {A = ℕ} (40 - length t) 0 in let whole : length r.bytes ≡ length (row_holding t) = ap length h.1 in
+        ap₂ (λ b n. record { bytes = b; len = n }) (sym h.1) (omega (arith, length-take r.len r.bytes, whole, held, zeros, h.0)) };
 }
 
 impl Row {
