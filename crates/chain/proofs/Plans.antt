@@ -6,7 +6,7 @@ use native.Mathlib.Omega.{arith}
 use lib.Dec.{T}
 use Rattle.laws.specs.Test.{among}
 use Rattle.laws.specs.Claim.{Claim, ◌is◌, ◌under◌, ◌and◌, up_to, each, Holds, sound}
-use Rattle.chain.specs.Plan.{widths, encoder_counts, stream_counts, bit_counts, kept_counts, streams_of, bits_of, rate_steps, rate_kept, carriers_of, plan_of, groups_of, Planned, Fits}
+use Rattle.chain.specs.Plan.{widths, encoder_counts, stream_counts, bit_counts, kept_counts, carriers_of, plan_of, groups_of, Planned, Fits}
 use Rattle.chain.specs.declared.plan.Plan.{Plan}
 
 abbrev one : Bool → ℕ
@@ -60,14 +60,3 @@ fits w m e h =
       coded_groups = c.1.1.1.1.1.1.1.1.1.1.1.0;
       dbps_groups = c.1.1.1.1.1.1.1.1.1.1.1.1;
     }
-
--- the products on the way to the data bits are small
-abbrev product_claim : Claim
-product_claim = each widths λ w. up_to 32 λ m.
-    carriers_of w * bits_of m under 649
-    and carriers_of w * bits_of m * streams_of m under 2593
-    and carriers_of w * bits_of m * streams_of m * rate_steps m under 12961
-    and 0 under rate_kept m
-
-pub products : Holds product_claim
-products = sound product_claim tt

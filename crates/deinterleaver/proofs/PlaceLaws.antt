@@ -4,7 +4,7 @@ use mathlib.Core.Path.{◌≡◌, ◌∙◌, refl, sym, ap, ap₂, subst}
 use mathlib.Core.List.{List}
 use mathlib.Core.Logic.{⊎_elim}
 use Prim.Native.Nat.{ℕ, ◌+◌, ◌-◌, ◌*◌, ◌/◌, ◌%◌, ◌<◌, ◌≤◌}
-use native.Mathlib.Nat.{mul-le-mul, mul-le-mul_right, not-suc-le-zero}
+use native.Mathlib.Nat.{mul-le-mul, mul-le-mul_right}
 use native.Mathlib.Omega.{arith}
 use lib.ListN.{length, get_or, take, drop}
 use Rattle.std.proofs.lemmas.List.{get_or-take, get_or-drop, length-take-le, length-drop}
@@ -211,10 +211,6 @@ module _ (p : Plan) (f : Fits p) where
             (λ k l. parts.last_is.read k l ∙ ap (λ (x : ℕ). get_or bits x 0) (omega (arith, t.from_is)))
             (scatter_end parts.last_is.sized two)))
 
--- before the first stream
-pub placed_none : (p : Plan) (bits coded : List ℕ) → Placed p bits 0 coded coded
-placed_none p bits coded = record { same = refl; done = λ j y hj hy l. absurd (not-suc-le-zero l) }
-
 -- one stream more
 pub placed_more : (p : Plan) (f : Fits p) (bits : List ℕ) (i : ℕ) (c₀ c c' : List ℕ) → i < p.streams → Placed p bits i c₀ c
     → Scattered 0 (λ r. slot_of p i r) (λ r. label_bit_in p bits i r) p.block c c' → Placed p bits (i + 1) c₀ c'
@@ -241,7 +237,3 @@ placed_more p f bits i c₀ c c' hi past new = record {
         subst (λ (k : ℕ). Scattered 0 (λ r. slot_of p k r) (λ r. label_bit_in p bits k r) p.block c c') (sym e) new in
         ap₂ (λ (a b : ℕ). get_or c' (1296 * a + b) 0) (sym h.encoder_back) (sym h.index_back)
         ∙ s.done (coded_place p j y) h.place_lt
-
--- the count by another name, as at the loop's end
-pub placed_end : {p : Plan} {bits : List ℕ} {n m : ℕ} {c₀ c : List ℕ} → n ≡ m → Placed p bits n c₀ c → Placed p bits m c₀ c
-placed_end {p} {bits} {c₀ = c₀} {c = c} e placed = subst (λ (k : ℕ). Placed p bits k c₀ c) e placed

@@ -161,9 +161,6 @@ module _ (s : ℕ) (known : T (among axis_counts s)) where
 
 -- the same of tables that a function was handed
 module _ (s : ℕ) (levels labels : List ℕ) (tables : Tables s levels labels) where
-  pub levels_sized : length levels ≡ 32
-  levels_sized = ap length tables.levels_are
-
   pub label_there : (x : Float) (b k : ℕ) → b ≡ to_bits binary32 x → k ≡ key_of b → k < 32 → b ≡ get_or levels k 0 → get_or labels k 0 ≡ level_label s x
   label_there x b k e g small there =
       let at : k ≡ key_of (to_bits binary32 x) = g ∙ ap key_of e in
@@ -178,20 +175,10 @@ module _ (s : ℕ) (levels labels : List ℕ) (tables : Tables s levels labels) 
       ∙ key_other s tables.axis x
       (λ there. n (e ∙ there ∙ ap (λ (j : ℕ). get_or level_keys j 0) (sym at) ∙ ap (λ (l : List ℕ). get_or l k 0) (sym tables.levels_are)))
 
--- an axis has at most eight labels
-abbrev few_claim : Claim
-few_claim = each axis_counts λ s. 2 ^ s under 9
-
-few : (s : ℕ) → T (among axis_counts s) → 2 ^ s ≤ 8
-few s known = omega (arith, sound few_claim tt s known)
-
 -- what stands at key 0
 module _ (s : ℕ) (labels : List ℕ) (known : T (among axis_counts s)) (e : labels ≡ label_keys s) where
   pub all_labels : get_or labels 0 0 ≡ 2 ^ s
   all_labels = ap (λ (l : List ℕ). get_or l 0 0) e ∙ key_none s known
-
-  pub all_few : get_or labels 0 0 ≤ 8
-  all_few = omega (arith, all_labels, few s known)
 
 -- what the goals of `flip` need
 pub ruleset flip_steps = (keys_sized, all_labels, nat_tests)

@@ -19,10 +19,9 @@ use Rattle.chain.specs.Parser.{axis_bits}
 use Rattle.mapper.specs.declared.point.Point.{Point}
 use Rattle.mapper.specs.Levels.{whole, levels}
 use Rattle.modulator.specs.Symbol.{turned_if}
-use Rattle.modulator.specs.Asked.{pilot_point}
 use Rattle.modulator.proofs.RunningLaws.{pilot_point_whole}
 use Rattle.demapper.specs.declared.point.PointLabels.{PointLabels}
-use Rattle.demapper.specs.Demapped.{same_bits, level_label, negated_label}
+use Rattle.demapper.specs.Demapped.{same_bits, level_label}
 use Rattle.demapper.specs.Demapped.{first_label, second_label, second_labels, data_given, bit_of_label, point_bit}
 use Rattle.demapper.specs.Asked.{PointTables, PointRead, DataHeard, pilot_heard}
 use Rattle.demapper.proofs.LabelLaws.{all_labels}
@@ -43,15 +42,6 @@ second_one bits t x y v b r one v-is told e =
     byte_of : (z : Bool) → bool_byte (not z) ≡ cond z 0 1
     byte_of true = refl
     byte_of false = refl
-
--- and else, by the turn
-pub second_two : (bits s : ℕ) (t : Bool) (x y : Float) (turned : Bool) (r : ℕ) → eqb bits 1 ≡ false → s ≡ axis_bits bits → t ≡ turned
-    → r ≡ cond turned (negated_label s x) (level_label s y) → r ≡ second_label bits t x y
-second_two bits s t x y turned r two axis e g =
-    g ∙ ap₂ (λ (b : Bool) (k : ℕ). cond b (negated_label k x) (level_label k y)) (sym e) axis ∙ whole_way
-  where
-    whole_way : cond t (negated_label (axis_bits bits) x) (level_label (axis_bits bits) y) ≡ second_label bits t x y
-    whole_way = simp two
 
 module _ (bits s : ℕ) (levels labels : List ℕ) (tables : PointTables bits s levels labels) where
   -- all labels of an axis
@@ -131,16 +121,7 @@ module _ (bits s : ℕ) (known : T (among bit_counts bits)) (axis : s ≡ axis_b
             (λ k h. ap (λ (l : ℕ). bit_of_label (axis_bits bits) l k) r.second ∙ second_bits bits t x y k) q'));
       }
 
--- a pilot's test by the bits of its point
-pub pilot_by : (sign : Float) (t : Bool) (x y : Float) (p : Point) (a a' b b' : ℕ) → p ≡ pilot_point sign t
-    → a ≡ to_bits binary32 x → a' ≡ to_bits binary32 p.first → b ≡ to_bits binary32 y → b' ≡ to_bits binary32 p.second
-    → (eqb a a' && eqb b b') ≡ pilot_heard sign t x y
-pilot_by sign t x y p a a' b b' pilot e e' g g' =
-    ap₂ (λ (u v : Bool). u && v)
-    (ap₂ eqb e (e' ∙ ap (λ (q : Point). to_bits binary32 q.first) pilot))
-    (ap₂ eqb g (g' ∙ ap (λ (q : Point). to_bits binary32 q.second) pilot))
-
--- where its sign is the float of a small whole number
+-- a pilot's test where its sign is the float of a small whole number
 pub pilot_heard_lem : (sign : Float) (t : Bool) (x y : Float) (s : ℤ) → nat_abs s < 8 → sign ≡ whole s
     → let l = turned_if t (levels s (pos 0)) in
     pilot_heard sign t x y ≡ (same_bits x (whole l.first) && same_bits y (whole l.second))

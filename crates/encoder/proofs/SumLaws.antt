@@ -1,16 +1,13 @@
--- The sums made by xor are the sums modulo 2, and both calls leave sums A and B. Assumes nothing.
-use mathlib.Core.Path.{◌≡◌, ◌∙◌, ap}
-use mathlib.Core.List.{List}
+-- The sums made by xor are the sums modulo 2. Assumes nothing.
+use mathlib.Core.Path.{◌≡◌, ap}
 use Prim.Native.Nat.{ℕ, ◌+◌, ◌*◌, ◌%◌, ◌<◌, ◌≤◌}
 use native.Mathlib.Omega.{arith}
 use lib.Dec.{lit≤}
 use lib.Bits.{bit_xor}
 use Rattle.laws.specs.Claim.{Claim, ◌is◌, up_to, Holds, sound}
-use Rattle.laws.specs.Filled.{Filled}
-use Rattle.laws.proofs.Filling.{fill_at}
 use Rattle.chain.specs.Encoder.{sum_a, sum_b, line_tap}
 use Rattle.chain.proofs.Window.{tap_at}
-use Rattle.encoder.specs.Sums.{xor_a, xor_b, Sums}
+use Rattle.encoder.specs.Sums.{xor_a, xor_b}
 
 -- the xor of five bits is their sum modulo 2
 abbrev five_claim : Claim
@@ -51,13 +48,3 @@ module _ (line : ℕ → ℕ) (e j t : ℕ) (bits : (k : ℕ) → k ≤ 6 → li
   xor_b_lem =
       rw (back_0, back_1, back_2, back_3, back_6)
       (five _ (bits 0 (lit≤ tt)) _ (bits 1 (lit≤ tt)) _ (bits 2 (lit≤ tt)) _ (bits 3 (lit≤ tt)) _ (bits 6 (lit≤ tt)))
-
--- sums A and then sums B, where the second call leaves the first's
-pub both : {line : ℕ → ℕ} {e n : ℕ} {d d₁ d₂ : List ℕ} → n ≤ 2160
-    → Filled 0 0 (λ j. xor_a line e j) n d d₁ → Filled 0 2160 (λ j. xor_b line e j) n d₁ d₂ → Sums line e n d d₂
-both {line} {e} few a b =
-    record {
-      same = b.same ∙ a.same;
-      a_done = λ j l. b.before j (omega arith) ∙ fill_at 0 (λ j. xor_a line e j) a j l;
-      b_done = b.done;
-    }

@@ -42,9 +42,6 @@ module _ {inputs coded : List ℕ} {h q n base e j : ℕ} (p : EncoderAsked inpu
     tally_none h own q two,
   )
 
-  pub stride_small : (q - 1) * e ≤ 10
-  stride_small = mul-le-mul {n₂ = 5} {m₂ = 2} (omega (arith, kept_high q p.rate)) p.two
-
   module _ {g : ℕ} (l : g < n) where
     -- where group g's coded bits and inputs stand
     abbrev i : ℕ

@@ -1,11 +1,11 @@
 -- The points call: a symbol from its half labels, and the answer by the tests. Assumes nothing.
 use Rattle.std.specs.Prelude.{Err, Ok, Result}
-use mathlib.Core.Path.{◌≡◌, ◌∙◌, refl, sym, ap, subst}
+use mathlib.Core.Path.{◌≡◌, ◌∙◌, refl, sym, subst}
 use mathlib.Core.Bool.{Bool, true, false, cond}
 use mathlib.Core.List.{List}
 use Prim.Native.Nat.{ℕ, ◌*◌, ◌≤◌}
 use native.Mathlib.Omega.{arith}
-use borrow.Author.Tests.{ltb-false, leb-false}
+use borrow.Author.Tests.{ltb-false}
 use lib.Dec.{ltb, leb}
 use lib.ListN.{length}
 use lib.Ieee.{Float, nan}
@@ -53,17 +53,11 @@ module _ (s : Settings) (payload : List ℕ) (n : ℕ) (halves : List ℕ) (held
       fill_as nan 0 (symbol_float (plan_for s) (halves_in halves (halves_of (plan_for s))) s.format n) (point_float s payload n) (floats_of s) out out'
       (symbol_ext (plan_for s) (plan_fits s r) (halves_in halves (halves_of (plan_for s))) (labels_of s payload n) s.format n held.held) g
 
--- the answer and the slice where the settings are refused
-pub points_refused : (x : Result Settings Refusal) (r : Refusal) (payload : List ℕ) (symbol : ℕ) (out : List Float) → x ≡ Err r
-    → (Err r ≡ points_of x (length payload) symbol (length out)) × (out ≡ points_into x payload symbol out)
-points_refused x r payload symbol out e =
-    (ap (λ (y : Result Settings Refusal). points_of y (length payload) symbol (length out)) (sym e), ap (λ (y : Result Settings Refusal). points_into y payload symbol out) (sym e))
-
 module _ (s : Settings) (payload : List ℕ) (symbol : ℕ) (out : List Float) where
   abbrev answer : (short past small : Bool) → Result ℕ Refusal
   answer short past small = cond short (Err Source) (cond past (Err Place) (cond small (Err Room) (Ok (floats_of s))))
 
-  -- and where they are accepted, by the tests' values
+  -- the answer and the slice where the settings are accepted, by the tests' values
   pub points_by : (x : Result Settings Refusal) (short past small : Bool) → x ≡ Ok s
       → ltb (length payload) s.length ≡ short → leb (symbols_of s) symbol ≡ past → ltb (length out) (floats_of s) ≡ small
       → (answer short past small ≡ points_of x (length payload) symbol (length out))
@@ -78,15 +72,6 @@ module _ (s : Settings) (payload : List ℕ) (symbol : ℕ) (out : List Float) w
   points_written x out' e f g h filled =
       let w = points_by x false false false e f g h in
       (w.0, fill_list nan (point_float s payload symbol) (floats_of s) out out' (ltb-false (length out) (floats_of s) h) filled ∙ w.1)
-
-  -- what writing the symbol asks, where no test applies
-  pub write_asked : Right s → ltb (length payload) s.length ≡ false → leb (symbols_of s) symbol ≡ false → ltb (length out) (floats_of s) ≡ false
-      → WriteAsked out s payload symbol
-  write_asked r f g h =
-      record {
-        in_frame = record { right = r; whole_payload = ltb-false (length payload) s.length f; below_count = leb-false (symbols_of s) symbol g };
-        room = ltb-false (length out) (floats_of s) h;
-      }
 
 -- a number of floats that the call gives is small
 pub written_few : (a : RawSettings) (bytes symbol room n : ℕ) → points_of (check_of a) bytes symbol room ≡ Ok n → n ≤ 912

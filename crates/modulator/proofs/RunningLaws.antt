@@ -4,7 +4,7 @@ use Rattle.std.proofs.Common.{◌+◌, ◌-◌, ◌*◌, ◌/◌, ◌%◌, ◌<�
 use Rattle.std.proofs.Common.{arith, length, ℤ, pos, nat_abs, ◌*ℤ◌}
 use lib.Ieee.{Float, nan}
 use Rattle.laws.specs.Filled.{Filled}
-use Rattle.laws.proofs.Filling.{fill_none, fill_as, fill_end, fill_from, fill_join}
+use Rattle.laws.proofs.Filling.{fill_as, fill_end, fill_from, fill_join}
 use Rattle.chain.specs.declared.plan.Plan.{Plan}
 use Rattle.chain.specs.Plan.{Fits}
 use Rattle.chain.specs.Parser.{axis_bits}
@@ -13,7 +13,7 @@ use Rattle.chain.proofs.Counts.{carriers_few, streams_most}
 use Rattle.chain.proofs.LabelLaws.{halves_most}
 use Rattle.mapper.specs.declared.point.Point.{Point}
 use Rattle.mapper.specs.Levels.{whole, Levels, levels, carrier_levels, point_of}
-use Rattle.mapper.specs.Mapped.{LevelTable, carrier_halves, HalvesAt, PointAsked, Small, turned_point, axis_of}
+use Rattle.mapper.specs.Mapped.{LevelTable, carrier_halves, HalvesAt, Small, turned_point, axis_of}
 use Rattle.mapper.proofs.CarrierLaws.{all_halves}
 use Rattle.mapper.proofs.PointLaws.{turned_whole}
 use Rattle.subcarriers.specs.declared.layout.Run.{Run}
@@ -31,13 +31,10 @@ use Rattle.modulator.specs.Symbol.{used_levels, turned_if, axis_level, stream_le
 use Rattle.modulator.specs.Asked.{halves_from, own_half, halves_in, run_level, RunAsked, CarriersFilled, pilot_point, StreamAsked}
 use Rattle.modulator.specs.Asked.{SegmentFilled, StreamFilled, SymbolAsked}
 
--- a point that is turned, and one that is not
+-- a point that is turned
 pub turned_point_lem : (t : Bool) (l : Levels) (p r : Point) → t ≡ true → Small l → p ≡ point_of l → r ≡ turned_point p
     → r ≡ point_of (turned_if t l)
 turned_point_lem t l p r e small made turned = rw e (turned ∙ ap turned_point made ∙ turned_whole l small)
-
-pub plain_point : (t : Bool) (l : Levels) (p : Point) → t ≡ false → p ≡ point_of l → p ≡ point_of (turned_if t l)
-plain_point t l p e made = rw e made
 
 -- a pilot's point, by the turn
 pub pilot_turned : (sign : Float) (t : Bool) (r : Point) → t ≡ true → r ≡ turned_point (record { first = sign; second = whole (pos 0) })
@@ -81,12 +78,6 @@ pub halves_fewer : {halves : List ℕ} {bits from more : ℕ} → HalvesAt halve
 halves_fewer {bits = bits} {more = more} stands fewer h =
     let below : carrier_halves bits * fewer ≤ carrier_halves bits * more = mul-le-mul_left (carrier_halves bits) h in
     record { inside = omega (arith, stands.inside); label = λ m l. stands.label m (omega arith) }
-
--- what a turn of a run asks
-pub run_asked : {out : List Float} {s : Stream} {to : ℕ} {run : Run}
-    → RunAsked out s to run → (k : ℕ) → k < run.count → PointAsked s.halves.now s.table.now s.plan.bits s.from (run.carrier + k)
-run_asked {run = run} asked k h =
-    record { known = asked.known; tabled = asked.tabled; stands = halves_fewer asked.stands (run.carrier + k + 1) (omega arith) }
 
 -- a turn of a run: carrier k's point after those before it
 pub run_more : (halves : List ℕ) (bits from to carrier k : ℕ) (t : Bool) (p : Point) (d₀ d d' : List Float)
@@ -225,10 +216,6 @@ module _ (s : Stream) (fits : Fits s.plan) where
 
   abbrev streamed : (format g : ℕ) → Float
   streamed format g = whole (stream_level s.plan (λ j. own_half s) format s.n s.i g)
-
-  -- before the first run
-  pub part_none : (d : List Float) → PartFilled s 0 d d
-  part_none d = λ format e. fill_none nan s.base (streamed format) d
 
   -- a run more
   pub part_more : (r : ℕ) (d₀ d d' : List Float) → r < 2 * half_runs s.plan.width → PartFilled s r d₀ d

@@ -38,26 +38,12 @@ unfolding polarity_bit
 polarity_at format n steps state r there told e =
     told ∙ ap output there ∙ sym (output_period 127 steps (lit< tt)) ∙ ap (λ (k : ℕ). output (state_at 127 (k % 127))) e
 
--- the value of its row that a pilot has, where the width has so many pilots
-pub value_at : (width n q count : ℕ) → pilots_of width ≡ count → ((n + q) % count ≡ (n + q) % pilots_of width) × ((n + q) % count < pilots_of width)
-value_at width n q count e =
-    let same = ap (λ (k : ℕ). (n + q) % k) (sym e) in
-    (same, rw same (pilots_few width n q))
-
 -- streams are from 1 to 4
 abbrev range_claim : Claim
 range_claim = each stream_counts λ s. (0 under s) and (s under 5)
 
 pub streams_range : (streams : ℕ) → T (among stream_counts streams) → (0 < streams) × (streams < 5)
 streams_range = sound range_claim tt
-
--- a row has at most 6 values
-few_values : (b : Bool) → cond b 6 4 < 7
-few_values true = lit< tt
-few_values false = lit< tt
-
-pub value_small : (width k : ℕ) → k < pilots_of width → k < 6
-value_small width k h = omega (arith, few_values (eqb width 40))
 
 -- bit k of row i, under a name that stays shut where the rows are read off a goal
 unfoldable pub bit_in : (rows : List ℕ) (i k : ℕ) → ℕ

@@ -1,7 +1,7 @@
 -- Where the kept bits' sums stand, that each kept bit is the sum at its place, and that the bits picked from there are the coded bits.
 -- Assumes nothing.
-use Rattle.std.proofs.Common.{◌≡◌, ◌∙◌, refl, sym, ap, ℕ, ◌+◌, ◌-◌, ◌*◌, ◌/◌, ◌%◌, ◌<◌, ◌≤◌, arith, ⊎_elim}
-use Rattle.std.proofs.Common.{List, mul-le-mul, mul-le-mul_right, ◌++◌, length, take, drop, get_or-take, eq-eqb, ne_eqb, T, get_or}
+use Rattle.std.proofs.Common.{◌≡◌, ◌∙◌, refl, sym, ap, ℕ, ◌+◌, ◌-◌, ◌*◌, ◌%◌, ◌<◌, ◌≤◌, arith, ⊎_elim}
+use Rattle.std.proofs.Common.{List, mul-le-mul_right, ◌++◌, length, take, drop, get_or-take, eq-eqb, ne_eqb, T, get_or}
 use native.Mathlib.Decide.{ℕ_discrete}
 use borrow.Rule.Slice.PartMut.{put_mid}
 use Rattle.std.proofs.lemmas.Grind.{common_steps}
@@ -17,21 +17,6 @@ use Rattle.chain.proofs.Window.{tap_at, at_below}
 use Rattle.encoder.specs.Sums.{Sums}
 use Rattle.encoder.proofs.SumLaws.{xor_a_lem, xor_b_lem}
 use Rattle.puncturing.specs.Coded.{sum_place, CodedAsked, Coded}
-
--- the place, from the parity in the group and the step
-pub place_by_lem : (q q' e y half step : ℕ) → q ≡ q' → half ≡ y % q' % 2 → step ≡ (q' - 1) * (y / q') + (y % q' - 1)
-    → half * 2160 + e * step ≡ sum_place q e y
-place_by_lem q q' e y half step same h s = rw (same, h, s) (omega arith)
-
--- the product in a place fits
-pub product_few : (e s : ℕ) → e ≤ 2 → s < 2592 → e * s < 5184
-product_few e s h l =
-    let l' : s ≤ 2591 = omega arith in
-    omega (arith, mul-le-mul h l')
-
--- a place fits
-pub place_few : (half e s : ℕ) → half < 2 → e ≤ 2 → s < 2592 → half * 2160 + e * s < 7344
-place_few half e s b h l = omega (arith, product_few e s h l)
 
 -- a place is that of the kept bit's step, and 2160 more for sum B
 pub sum_place_is : (q e y : ℕ) → sum_place q e y ≡ 2160 * (y % q % 2) + e * kept_step q y

@@ -18,7 +18,6 @@ use Rattle.chain.specs.Plan.{Fits, axis_counts}
 use Rattle.chain.specs.Parser.{axis_bits}
 use Rattle.chain.specs.Labels.{halves_of}
 use Rattle.chain.proofs.Counts.{axis_known, axis_some}
-use Rattle.chain.proofs.LabelLaws.{halves_most}
 use Rattle.mapper.specs.declared.point.Point.{Point}
 use Rattle.mapper.specs.Levels.{whole, carrier_levels, point_of}
 use Rattle.mapper.proofs.CarrierLaws.{carrier_from, halves_to}
@@ -37,7 +36,6 @@ use Rattle.settings.proofs.SettingsLaws.{plan_fits, planned_width}
 use Rattle.frame.specs.Points.{labels_of}
 use Rattle.frame.specs.Asked.{InFrame, LabelsHeld}
 use Rattle.frame.proofs.FrameLaws.{held_small}
-use Rattle.query.specs.declared.query.Carried.{Carried}
 use Rattle.query.specs.declared.query.Carried.TheVariants.{Silent, Pilot, Data}
 use Rattle.query.specs.Query.{carried_by, carried_of, not_in_frame, query_of}
 
@@ -55,10 +53,6 @@ module _ (s : Settings) (r : Right s) (p : Plan) (t : ℕ) (e : p ≡ plan_for s
 
   pub axis_above : 0 < t
   axis_above = omega (arith, g, axis_some p.bits fitting.bits)
-
-  -- a stream's half labels begin at most 864 on
-  pub from_few : (i : ℕ) → i < (plan_for s).streams → i * (p.block / t) ≤ 864
-  from_few i h = rw (g, e) (omega (arith, inside i (plan_for s).streams (halves_of (plan_for s)) 0 864 h (omega arith) (halves_most (plan_for s) (plan_fits s r))))
 
 -- stream i's carriers up to c, where the symbol's half labels stand
 module _ (s : Settings) (payload : List ℕ) (n : ℕ) (halves : List ℕ) (r : Right s) (l : LabelsHeld s payload n halves)
@@ -110,13 +104,6 @@ pilot_is s p n i q polarity r e b g =
 
 -- ---- the question
 
--- symbol, stream or subcarrier not in the frame, by what the code computes of each
-pub not_there : (s : Settings) (p : Plan) (symbols symbol stream : ℕ) (z : ℤ) (b : Bool) → p ≡ plan_for s → symbols ≡ symbols_of s → b ≡ outside p.width z
-    → (leb symbols symbol || (leb p.streams stream || b)) ≡ not_in_frame s symbol stream z
-not_there s p symbols symbol stream z b e f g =
-    ap (λ (x : Bool). leb symbols symbol || (leb p.streams stream || x)) g
-    ∙ ap₂ (λ (x : ℕ) (q : Plan). leb x symbol || (leb q.streams stream || outside q.width z)) f e
-
 -- a subcarrier of the plan's channel is one of the settings'
 pub inside_width : (s : Settings) (z : ℤ) → Inside (plan_for s).width z → Inside s.width z
 inside_width s z = subst (λ (w : ℕ). Inside w z) (planned_width s)
@@ -155,12 +142,7 @@ module _ (s : Settings) (r : Right s) (z : ℤ) (inside : Inside (plan_for s).wi
   pub data_in : (c : ℕ) → use_of s.width z ≡ DataAt c → c < (plan_for s).carriers
   data_in c e = rw (plan_fits s r).carriers_is (used (DataAt c) e)
 
--- the answer where the settings are refused
-pub query_refused : (x : Result Settings Refusal) (r : Refusal) (payload : List ℕ) (symbol stream : ℕ) (z : ℤ) → x ≡ Err r
-    → Err r ≡ query_of x payload symbol stream z
-query_refused x r payload symbol stream z e = ap (λ (y : Result Settings Refusal). query_of y payload symbol stream z) (sym e)
-
--- and where they are accepted
+-- the answer where the settings are accepted
 module _ (s : Settings) (payload : List ℕ) (symbol stream : ℕ) (z : ℤ) where
   -- by the tests' values
   pub query_by : (x : Result Settings Refusal) (short elsewhere : Bool) → x ≡ Ok s → ltb (length payload) s.length ≡ short → elsewhere ≡ not_in_frame s symbol stream z
@@ -168,11 +150,6 @@ module _ (s : Settings) (payload : List ℕ) (symbol stream : ℕ) (z : ℤ) whe
   query_by x short elsewhere e f g =
       ap₂ (λ (a b : Bool). cond a (Err Source) (cond b (Err Place) (Ok (carried_of s payload symbol stream z)))) (sym f) g
       ∙ ap (λ (y : Result Settings Refusal). query_of y payload symbol stream z) (sym e)
-
-  -- and what is carried where both are false
-  pub query_carries : (x : Result Settings Refusal) (k : Carried) (y : ℤ) → x ≡ Ok s → ltb (length payload) s.length ≡ false → false ≡ not_in_frame s symbol stream z
-      → y ≡ z → k ≡ carried_of s payload symbol stream y → Ok k ≡ query_of x payload symbol stream z
-  query_carries x k y e f g i h = ap Ok (h ∙ ap (carried_of s payload symbol stream) i) ∙ query_by x false false e f g
 
   -- where both are false, symbol, stream and subcarrier are in the frame
   pub in_frame : Right s → ltb (length payload) s.length ≡ false → not_in_frame s symbol stream z ≡ false

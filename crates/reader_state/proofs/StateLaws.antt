@@ -1,15 +1,13 @@
 -- The reader's state: its numbers are small, and it is closed exactly where it is not in range. Assumes nothing.
 use Rattle.std.specs.Prelude.{Ok}
-use mathlib.Core.Path.{◌≡◌, ◌∙◌, refl, sym, ap}
+use mathlib.Core.Path.{◌≡◌, refl, sym}
 use mathlib.Core.Bool.{Bool, true, false, ◌||◌}
-use mathlib.Core.List.{List}
-use Prim.Native.Nat.{ℕ, zero, suc, ◌*◌, ◌%◌, ◌^◌, ◌<◌, ◌≤◌}
+use Prim.Native.Nat.{ℕ, ◌*◌, ◌%◌, ◌^◌, ◌<◌, ◌≤◌}
 use native.Mathlib.Nat.{mul-le-mul}
 use native.Mathlib.Omega.{arith}
 use native.Mathlib.Decide.{ℕ_discrete}
-use borrow.Author.Tests.{le-ltb, ltb-false, leb-false, lt-leb, le-leb, eq-eqb, ne_eqb, eqb-false}
+use borrow.Author.Tests.{le-ltb, ltb-false, leb-false, lt-leb, eq-eqb, ne_eqb, eqb-false}
 use lib.Dec.{leb, ltb, eqb}
-use lib.ListN.{get_or}
 use Rattle.laws.proofs.Reflect.{or_false}
 use Rattle.laws.proofs.Search.{above}
 use Rattle.chain.specs.declared.plan.Plan.{Plan}
@@ -40,20 +38,6 @@ module _ (s : Settings) (st : Reader) where
       → a ≡ bad_scrambler st.symbol st.scrambler → b ≡ bad_part s st.symbol st.part → (h || (a || b)) ≡ closed_of s st
   unfolding closed_of
   closed_by h a b e d f g = simp (e, d, f, g)
-
--- the histories' test, encoder by encoder
-module _ (histories : List ℕ) where
-  pub far_at : (j : ℕ) → j < 2 → 64 ≤ get_or histories j 0 → true ≡ bad_histories histories
-  far_at zero l e = simp (le-leb 64 (get_or histories 0 0) e)
-  far_at (suc zero) l e = go (leb 64 (get_or histories 0 0)) (le-leb 64 (get_or histories 1 0) e)
-    where
-      go : (a : Bool) {b : Bool} → b ≡ true → true ≡ (a || b)
-      go true e = refl
-      go false e = sym e
-  far_at (suc (suc j)) l e = absurd (omega arith)
-
-  pub near_all : ((j : ℕ) → j < 2 → get_or histories j 0 < 64) → false ≡ bad_histories histories
-  near_all near = simp (lt-leb 64 (get_or histories 0 0) (near 0 (omega arith)), lt-leb 64 (get_or histories 1 0) (near 1 (omega arith)))
 
 -- the tests of the scrambler, and the range
 scrambler_range : (symbol scrambler : ℕ) → bad_scrambler symbol scrambler ≡ false → (symbol ≡ 0 → ⊥) → (0 < scrambler) × (scrambler < 128)
@@ -111,15 +95,10 @@ module _ (s : Settings) (st : Reader) where
 pub only_ended : (st : Reader) → OnlyEnded st (ended_of st)
 only_ended st = record { settings = refl; symbol = refl; histories = refl; scrambler = refl; part = refl; ended = refl }
 
--- the numbers that the code computes of a symbol
+-- the number that the code computes of a symbol's first data bit
 module _ (s : Settings) (p : Plan) (plan : p ≡ plan_for s) where
   pub bits_near : Right s → (n : ℕ) → n < 32768 → n * p.dbps ≤ 70778880
   bits_near r n h = rw plan (first_near s r n h)
-
-  pub part_by : (n before limit part : ℕ) → before ≡ payload_before s.length (n * p.dbps) → limit ≡ 2 ^ (before % 8)
-      → leb limit part ≡ bad_part s n part
-  part_by n before limit part e f =
-      ap (λ (k : ℕ). leb k part) (f ∙ ap (λ (k : ℕ). 2 ^ (k % 8)) (e ∙ ap (λ (q : Plan). payload_before s.length (n * q.dbps)) plan))
 
 -- settings that are accepted are in their ranges
 pub open_right : (st : Reader) (s : Settings) → Ok s ≡ check_of (open_raw st.settings) → Right s

@@ -2,14 +2,14 @@
 use Rattle.std.specs.Prelude.{Err, Ok}
 use mathlib.Core.Path.{◌≡◌, refl, sym, subst}
 use mathlib.Core.Bool.{Bool, true, false, cond, not, ◌||◌}
-use Prim.Native.Nat.{ℕ, ◌+◌, ◌≤◌}
+use Prim.Native.Nat.{ℕ, ◌≤◌}
 use native.Mathlib.Omega.{arith}
-use borrow.Author.Tests.{lt-ltb, le-ltb, ltb-false, ne_eqb, eqb-false, eqb-true}
+use borrow.Author.Tests.{ltb-false, eqb-false, eqb-true}
 use lib.Dec.{T, eqb, ltb}
 use Rattle.laws.specs.Test.{among}
 use Rattle.laws.proofs.Refusing.{true_not_false}
 use Rattle.laws.proofs.Reflect.{or_false}
-use Rattle.laws.proofs.Search.{above, parts}
+use Rattle.laws.proofs.Search.{above}
 use Rattle.chain.specs.Plan.{widths, encoder_counts, streams_of, plan_of, Planned, Fits}
 use Rattle.chain.proofs.Plans.{fits}
 use Rattle.settings.specs.Settings.{number_of, bad_width, bad_mcs, bad_format, bad_length, bad_seed, settings_of, check_of, encoders_of, plan_for, Right}
@@ -17,23 +17,6 @@ use Rattle.settings.specs.declared.settings.RawSettings.{RawSettings}
 use Rattle.settings.specs.declared.settings.Refusal.{Refusal}
 use Rattle.settings.specs.declared.settings.Refusal.TheVariants.{Width, Mcs, Format, Length, Seed, Source, Place, Room, Point, Code, Frame, Closed, SigCrc, SigForm}
 use Rattle.settings.specs.declared.settings.Settings.{Settings}
-
--- what holds of the two widths, and of every other, holds of all
-pub by_width : {P : Type 0} (w : ℕ) → (w ≡ 20 → P) → (w ≡ 40 → P) → (eqb w 20 ≡ false → eqb w 40 ≡ false → P) → P
-by_width {P} w narrow wide other = go (eqb w 20) (eqb w 40) refl refl
-  where
-    go : (a b : Bool) → eqb w 20 ≡ a → eqb w 40 ≡ b → P
-    go true b p q = narrow (eqb-true w 20 p)
-    go false true p q = wide (eqb-true w 40 q)
-    go false false p q = other p q
-
--- what holds of 0, above `most` and between them, holds of every number
-pub by_range : {P : Type 0} (n most : ℕ)
-    → (n ≡ 0 → P) → (eqb n 0 ≡ false → ltb most n ≡ true → P) → (eqb n 0 ≡ false → ltb most n ≡ false → P) → P
-by_range n most none above between =
-    parts 1 (most + 1) n (λ l. none (omega arith))
-    (λ l h. between (ne_eqb n 0 (λ e. omega arith)) (le-ltb most n (omega arith)))
-    (λ h. above (ne_eqb n 0 (λ e. omega arith)) (lt-ltb most n (omega arith)))
 
 -- the answer where every test passes
 pub accepted_is : (a : RawSettings) → bad_width a ≡ false → bad_mcs a ≡ false → bad_format a ≡ false → bad_length a ≡ false → bad_seed a ≡ false

@@ -10,7 +10,7 @@ use native.Mathlib.Omega.{arith}
 use lib.ListN.{length, take, drop, length-append, length-drop}
 use lib.Seq.{drop_at, take_at}
 use lib.Dec.{T, ltb, eqb}
-use borrow.Author.Tests.{lt-ltb, le-ltb, ltb-false, eq-eqb, ne_eqb, eqb-true, eqb-false, not-false}
+use borrow.Author.Tests.{le-ltb, ltb-false, eq-eqb, ne_eqb, eqb-true, eqb-false, not-false}
 use Rattle.laws.specs.Test.{among}
 use Rattle.laws.specs.Refusals.{Rule, first_of}
 use Rattle.laws.proofs.Refusing.{given_exactly}
@@ -107,19 +107,7 @@ sig_fits s r = record { mcs = omega (arith, r.mcs); length = r.length_most }
 
 -- ---- the write
 
--- a refusal of the settings is given on, and nothing is written
-pub refused_write : (x : Result Settings Refusal) (r : Refusal) (l : List ℕ) → x ≡ Err r → (Err r ≡ written_of x (length l)) × (l ≡ written_into x l)
-refused_write x r l q = (ap (λ (y : Result Settings Refusal). written_of y (length l)) (sym q), ap (λ (y : Result Settings Refusal). written_into y l) (sym q))
-
--- where fewer than six bytes are lent, refusal 8, and nothing is written
-pub no_room_lem : (x : Result Settings Refusal) (s : Settings) (l : List ℕ) → x ≡ Ok s → length l < 6 → (Err Room ≡ written_of x (length l)) × (l ≡ written_into x l)
-no_room_lem x s l q h =
-    let t : ltb (length l) 6 ≡ true = lt-ltb (length l) 6 h in (
-      ap (λ (b : Bool). cond b (Err Room) (Ok tt)) (sym t) ∙ ap (λ (y : Result Settings Refusal). written_of y (length l)) (sym q),
-      ap (λ (b : Bool). cond b l (sig_bytes (fields_of s) ++ drop 6 l)) (sym t) ∙ ap (λ (y : Result Settings Refusal). written_into y l) (sym q),
-    )
-
--- otherwise the six bytes are written
+-- where six bytes or more are lent, the six are written
 pub wrote : (x : Result Settings Refusal) (s : Settings) (w : ℕ) (l m : List ℕ) → x ≡ Ok s → 6 ≤ length l → SigFits (fields_of s) → w ≡ sig_word (fields_of s)
     → m ≡ six_of w ++ drop 6 l → ((Ok tt) ≡ written_of x (length l)) × (m ≡ written_into x l)
 wrote x s w l m q h fit p d =

@@ -1,6 +1,6 @@
 -- The interleaver's inverse of stream 0 in closed form, and the parser of one stream bit: what the functions of the table compute.
 -- Assumes nothing.
-use Rattle.std.proofs.Common.{◌≡◌, ◌∙◌, refl, sym, List, ℕ, ◌+◌, ◌*◌, ◌/◌, ◌%◌, ◌<◌, ◌≤◌, mul-le-mul, arith, T, get_or}
+use Rattle.std.proofs.Common.{◌≡◌, ◌∙◌, refl, sym, List, ℕ, ◌+◌, ◌*◌, ◌/◌, ◌%◌, ◌<◌, ◌≤◌, arith, T, get_or}
 use Rattle.laws.specs.Test.{among}
 use Rattle.laws.specs.Claim.{Claim, ◌is◌, ◌under◌, ◌and◌, up_to, each, unless, Holds, sound}
 use Rattle.laws.specs.Filled.{Filled}
@@ -71,10 +71,6 @@ three_claim = each axis_counts λ s. unless s 1 (unless s 2 (s is 3))
 -- the last number of bits an axis has
 pub three_left : Holds three_claim
 three_left = sound three_claim tt
-
--- products by a number of streams are small
-pub streams_times : (streams k most : ℕ) → streams ≤ 4 → k ≤ most → streams * k ≤ 4 * most
-streams_times streams k most few h = mul-le-mul few h
 
 -- how large the numbers of a plan are
 pub record Small (p : Plan) : Type 0 where

@@ -4,7 +4,6 @@ use Rattle.std.proofs.Common.{suc, ◌+◌, ◌-◌, ◌*◌, ◌<◌, ◌≤◌
 use Rattle.laws.specs.Test.{among}
 use Rattle.laws.specs.Claim.{Claim, ◌is◌, ◌under◌, ◌and◌, up_to, each, Holds, sound}
 use Rattle.chain.specs.Plan.{widths, carriers_of}
-use Rattle.chain.proofs.Counts.{carriers_few}
 use Rattle.subcarriers.specs.declared.layout.Run.{Run}
 use Rattle.subcarriers.specs.declared.layout.TheConstants.{RUNS_20, RUNS_40}
 use Rattle.subcarriers.specs.declared.layout.Use.TheVariants.{Pilot, Data}
@@ -123,10 +122,6 @@ none_counts n p e = rw e (omega arith)
 pub counts_most : (n : ℕ) (p : Option ℕ) → n + cond (is_some p) 1 0 ≤ n + 1
 counts_most n None = omega arith
 counts_most n (Some q) = omega arith
-
--- a run's carriers are few
-pub carrier_few : (width : ℕ) → T (among widths width) → (run : Run) → RunRight width run → (k : ℕ) → k < run.count → run.carrier + k < 108
-carrier_few width h run right k l = omega (arith, right.carriers_inside, carriers_few width)
 
 -- where run r begins: where the run before it ends; after the last run, where the stream ends
 abbrev pub run_start : (width r : ℕ) → ℕ

@@ -1,8 +1,7 @@
 -- The layout's laws: each a claim computed at both widths and every subcarrier, place or data carrier. Assumes nothing.
-use Rattle.std.proofs.Common.{◌≡◌, refl, sym, ap, subst, Bool, true, false, cond, ◌||◌, Option, Some, None, ◌++◌, [], ◌∷◌, ℕ, ◌+◌, ◌-◌, ◌*◌}
-use Rattle.std.proofs.Common.{◌<◌, ◌≤◌, arith, T, eqb, ltb, eqb→eq, length, get_or, ℤ, pos, negsuc, ◌+ℤ◌, ltb-true, ltb-false, lt-ltb}
+use Rattle.std.proofs.Common.{◌≡◌, refl, sym, ap, subst, Bool, true, false, cond, Option, Some, None, ◌++◌, [], ◌∷◌, ℕ, ◌+◌, ◌-◌, ◌*◌}
+use Rattle.std.proofs.Common.{◌<◌, ◌≤◌, arith, T, eqb, ltb, eqb→eq, length, get_or, ℤ, pos, negsuc, ltb-true, ltb-false, lt-ltb}
 use Rattle.std.proofs.Common.{le-ltb}
-use lib.Signed.{lt_z}
 use Rattle.laws.specs.Test.{among, either_elim}
 use Rattle.laws.specs.Integers.{minus, counted}
 use Rattle.laws.specs.Claim.{Claim, ◌is◌, ◌under◌, ◌and◌, up_to, each, given, Holds, sound}
@@ -45,11 +44,6 @@ code_same (Data d) Silent e = absurd (omega (arith, e))
 code_same (Data d) (Pilot q) e = absurd (omega (arith, e))
 code_same (Data d) (Data c) e = ap Data (omega (arith, e))
 
--- what is outside the channel, by whether it is the wide one
-pub outside_by : (width : ℕ) (z : ℤ) (wide : Bool) → eqb width 40 ≡ wide
-    → (lt_z z (minus (cond wide 64 32)) || lt_z (pos (cond wide 64 32 - 1)) z) ≡ outside width z
-outside_by width z wide e = ap (λ (b : Bool). lt_z z (minus (cond b 64 32)) || lt_z (pos (cond b 64 32 - 1)) z) (sym e)
-
 -- the index that a subcarrier of the channel is counted by
 abbrev pub index_of : ℤ → ℕ
 index_of (pos n) = n + 64
@@ -70,19 +64,13 @@ abbrev index_claim : Claim
 index_claim = up_to 64 λ n.
     counted (subcarrier_from (n + 64)) is counted (pos n)
     and counted (subcarrier_from (63 - n)) is counted (negsuc n)
-    and counted (negsuc n +ℤ pos 64) is counted (pos (63 - n))
 
 indexes : Holds index_claim
 indexes = sound index_claim tt
 
 pub index_back : (z : ℤ) → Inside 40 z → subcarrier_from (index_of z) ≡ z
 index_back (pos n) e = counted_same (subcarrier_from (n + 64)) (pos n) (indexes n (inside_pos n e)).0
-index_back (negsuc n) e = counted_same (subcarrier_from (63 - n)) (negsuc n) (indexes n (inside_neg n e)).1.0
-
--- the index is 64 more than the subcarrier
-pub index_sum : (z : ℤ) → Inside 40 z → z +ℤ pos 64 ≡ pos (index_of z)
-index_sum (pos n) e = refl
-index_sum (negsuc n) e = counted_same (negsuc n +ℤ pos 64) (pos (63 - n)) (indexes n (inside_neg n e)).1.1
+index_back (negsuc n) e = counted_same (subcarrier_from (63 - n)) (negsuc n) (indexes n (inside_neg n e)).1
 
 -- a fact of both widths
 pub by_width : (P : ℕ → Type 0) → P 20 → P 40 → (width : ℕ) → T (among widths width) → P width
