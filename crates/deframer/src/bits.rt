@@ -28,7 +28,7 @@ pub fn descramble(plain: &mut [u8], inputs: &[u8], state: u8, count: usize)
     ensures { Filled 0 0 (plain_bit state (λ d. get_or inputs.now d 0)) count plain.old plain.new }
 {
     let mut outputs = [0u8; MOST_DATA];
-    scrambler_outputs(&mut outputs, state, count);
+    scrambler_outputs(&mut outputs[..count], state);
     add_bits(&mut plain[..count], inputs, &outputs);
 }
 
