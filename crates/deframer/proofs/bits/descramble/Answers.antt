@@ -7,4 +7,4 @@ use Rattle.deframer.proofs.bits.descramble.Goals as goal
 pub returns : goal.returns
 returns c = plain_filled _ _ _ _ _ _ _ c.requires.bits
     (fill_lent_all 0 0 _ _ _ (replicate 2160 0) (omega arith) (omega arith) c.scrambler_outputs.ensures)
-    (fill_lent_all 0 0 _ _ c.args.count c.args.plain.now (omega arith) (omega arith) c.add_bits.ensures)
+    c.add_bits.ensures
