@@ -1,5 +1,6 @@
 -- `label_sources`: the interleaver's table, parsed in place, is the table of label sources.
-use Rattle.std.proofs.Common.{◌≡◌, ◌∙◌, sym, ap, subst, ℕ, ◌<◌, ◌++◌, List, length, take, drop, length-take, get_or, get_or-take, T, arith}
+use Rattle.std.proofs.Common.{◌≡◌, ◌∙◌, sym, ap, subst, ℕ, ◌<◌, ◌≤◌, T, arith}
+use Rattle.std.proofs.Common.{◌++◌, List, length, take, drop, length-take, get_or, get_or-take}
 use Rattle.laws.specs.Test.{among}
 use Rattle.laws.specs.Filled.{Filled}
 use Rattle.laws.proofs.Filling.{fill_at, fill_as, fill_lent_all}
@@ -60,7 +61,8 @@ module _ (c : After-axis_bits) where
       → Filled 0 0 (λ r. label_source c.args.plan r) c.args.plan.block c.args.table.now (d ++ drop c.args.plan.block c.sources_at.new.table)
   tabled {s} {e} bits encoders parsed =
       let t = c.sources_at.new.table in
-      let whole = fill_lent_all 0 0 _ _ c.args.plan.block t (omega (arith, c.sources_at.ensures.same, c.requires.room)) (omega arith) parsed in
+      let room : c.args.plan.block ≤ length t = omega (arith, c.sources_at.ensures.same, c.requires.room) in
+      let whole = fill_lent_all 0 0 _ _ c.args.plan.block t (omega arith) (omega arith) parsed in
       parsed_table c.args.plan c.requires.fits (sym c.axis_bits.ensures ∙ bits) encoders c.sources_at.ensures
       (fill_as 0 0 _ (λ r. coded_slot s c.args.plan.streams e 0 (get_or t r 0)) _ _ _
       (λ r h. ap (coded_slot s c.args.plan.streams e 0) (get_or-take c.args.plan.block t r 0 h)) whole)
