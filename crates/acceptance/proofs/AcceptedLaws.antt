@@ -7,6 +7,7 @@ use mathlib.Core.Bool.{Bool, true, false, cond, ◌&&◌}
 use mathlib.Core.List.{List, ◌++◌}
 use Prim.Native.Nat.{ℕ, ◌+◌, ◌-◌, ◌*◌, ◌/◌, ◌%◌, ◌<◌, ◌≤◌}
 use native.Mathlib.Omega.{arith}
+use Rattle.std.proofs.Common.{length-take}
 use borrow.Author.Tests.{eq-eqb, ne_eqb}
 use lib.Dec.{eqb, ltb}
 use lib.ListN.{length, get_or, take, drop}
@@ -216,10 +217,19 @@ module _ (s : Settings) (st : Reader) (inputs : List ℕ) (held : InputsHeld s s
         known = held.in_range.scrambler_most;
       }
 
-  pub plain_asked : (p : Plan) → p ≡ plan_for s → (plain : List ℕ) (k : ℕ) → 2160 ≤ length plain → k < 128 → PlainAsked plain inputs k p.dbps
+  pub few_bits : (p : Plan) → p ≡ plan_for s → p.dbps ≤ 2160
+  few_bits p plan = rw plan (plan_fits s held.right).dbps_most
+
+  pub plain_asked : (p : Plan) → p ≡ plan_for s → (plain : List ℕ) (k : ℕ) → 2160 ≤ length plain → k < 128 → PlainAsked (take p.dbps plain) inputs k
   plain_asked p plan plain k room small =
       let most = (plan_fits s held.right).dbps_most in
-      rw plan (record { room = omega (arith, most, room); whole_inputs = held.whole_inputs; few = most; in_range = small; bits = held.one_bit })
+      let sized : length (take (plan_for s).dbps plain) ≡ (plan_for s).dbps = simp length-take (omega (arith, most, room)) in
+      rw plan (record {
+        whole_inputs = omega (arith, sized, held.whole_inputs);
+        few = omega (arith, sized, most);
+        in_range = small;
+        bits = λ d l. held.one_bit d (omega (arith, sized, l));
+      })
 
   pub right_asked : (plain : List ℕ) → 2160 ≤ length plain → RightAsked s st.symbol inputs plain
   right_asked plain room = record {

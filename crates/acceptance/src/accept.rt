@@ -112,7 +112,7 @@ pub fn hear_inputs(
     let plan = plan_of(s);
     let scrambler = scrambler_for(reader, inputs);
     let mut plain = [0u8; MOST_DATA];
-    descramble(&mut plain, inputs, scrambler, plan.dbps);
+    descramble(&mut plain[..plan.dbps], inputs, scrambler);
     let right = is_right(s, reader.symbol, scrambler, inputs, &plain);
     if right {
         let part = put_bytes(payload, s, reader.symbol, reader.part, &plain);

@@ -23,12 +23,11 @@ framed bytes encoders start count X P = below (λ d. input_ok bytes encoders (st
 
 -- what the calls ask
 
-pub record PlainAsked (plain inputs : List ℕ) (state count : ℕ) : Type 0 where
-  pub room : count ≤ length plain
-  pub whole_inputs : count ≤ length inputs
-  pub few : count ≤ 2160
+pub record PlainAsked (plain inputs : List ℕ) (state : ℕ) : Type 0 where
+  pub whole_inputs : length plain ≤ length inputs
+  pub few : length plain ≤ 2160
   pub in_range : state < 128
-  pub bits : (d : ℕ) → d < count → get_or inputs d 0 < 2
+  pub bits : (d : ℕ) → d < length plain → get_or inputs d 0 < 2
 
 pub record FramedAsked (inputs plain : List ℕ) (bytes encoders start count : ℕ) : Type 0 where
   pub whole_inputs : count ≤ length inputs

@@ -23,13 +23,13 @@ pub fn seed_of(inputs: &[u8]) -> u8
 }
 
 // The plain bits of a symbol's inputs, from a scrambler state on.
-pub fn descramble(plain: &mut [u8], inputs: &[u8], state: u8, count: usize)
-    requires { PlainAsked plain.old inputs.now state count }
-    ensures { Filled 0 0 (plain_bit state (λ d. get_or inputs.now d 0)) count plain.old plain.new }
+pub fn descramble(plain: &mut [u8], inputs: &[u8], state: u8)
+    requires { PlainAsked plain.old inputs.now state }
+    ensures { Filled 0 0 (plain_bit state (λ d. get_or inputs.now d 0)) (length plain.old) plain.old plain.new }
 {
     let mut outputs = [0u8; MOST_DATA];
-    scrambler_outputs(&mut outputs, state, count);
-    add_bits(&mut plain[..count], inputs, &outputs);
+    scrambler_outputs(&mut outputs[..plain.len()], state);
+    add_bits(plain, inputs, &outputs);
 }
 
 // Bits added up: zero exactly when each is.

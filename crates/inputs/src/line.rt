@@ -31,7 +31,7 @@ fn scrambled_inputs(line: &mut [u8], payload: &[u8], encoders: usize, seed: u8, 
     let bytes = payload.len();
     let skip = start % 8;
     data_bits(&mut raw, payload, start / 8, (skip + count + 7) / 8);
-    scrambler_outputs(&mut outputs, jump(seed, start), count);
+    scrambler_outputs(&mut outputs[..count], jump(seed, start));
     let tail = below_mark(16 + 8 * bytes, start, count);
     let pad = below_mark(16 + 8 * bytes + 6 * encoders, start, count);
     mix(line, &raw[skip..], &outputs, tail, pad);

@@ -32,7 +32,7 @@ fn print_bits<W: Write>(out: &mut W, bits: &[u8]) -> io::Result<()>
 fn main(rt: HostRuntime) -> io::Result<()> {
     let mut out = rt.stdout();
     let mut outputs = [0u8; 127];
-    scrambler_outputs(&mut outputs, 127, 127);
+    scrambler_outputs(&mut outputs, 127);
     print_bits(&mut out, &outputs)?;
     let mut line = [0u8; 162];
     coder_inputs(&mut line, &MESSAGE, 1, 93, 0);

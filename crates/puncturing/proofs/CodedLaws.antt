@@ -1,7 +1,7 @@
 -- Where the kept bits' sums stand, that each kept bit is the sum at its place, and that the bits picked from there are the coded bits.
 -- Assumes nothing.
-use Rattle.std.proofs.Common.{◌≡◌, ◌∙◌, refl, sym, ap, ℕ, ◌+◌, ◌-◌, ◌*◌, ◌%◌, ◌<◌, ◌≤◌, arith, ⊎_elim}
-use Rattle.std.proofs.Common.{List, mul-le-mul_right, ◌++◌, length, take, drop, get_or-take, eq-eqb, ne_eqb, T, get_or}
+use Rattle.std.proofs.Common.{◌≡◌, ◌∙◌, refl, sym, ap, ℕ, ◌+◌, ◌-◌, ◌*◌, ◌/◌, ◌%◌, ◌<◌, ◌≤◌, arith, ⊎_elim}
+use Rattle.std.proofs.Common.{List, mul-le-mul, mul-le-mul_right, ◌++◌, length, take, drop, get_or-take, eq-eqb, ne_eqb, T, get_or}
 use native.Mathlib.Decide.{ℕ_discrete}
 use borrow.Rule.Slice.PartMut.{put_mid}
 use Rattle.std.proofs.lemmas.Grind.{common_steps}
@@ -108,11 +108,11 @@ module _ (coded line : List ℕ) (e q g : ℕ) (asked : CodedAsked coded line e 
   -- what the bits picked for encoder j are
   pub picked : {s sums d places before after : List ℕ} {n : ℕ} → Sums bit_at e (e * ((q - 1) * g)) s sums
       → Filled 0 0 (λ y. sum_place q e y) (q * g) d places → (j k : ℕ) → j < e → k ≡ j → n ≡ q * g
-      → Filled 0 0 (λ y. get_or sums (get_or (take (q * g) places) y 0 + k) 0) n before after
+      → Filled 0 0 (λ y. get_or sums (get_or places y 0 + k) 0) n before after
       → (y : ℕ) → y < q * g → get_or after y 0 ≡ line_kept bit_at e q j y
   picked {sums = sums} {places = places} s f j k mine same size p y l =
-      fill_at 0 (λ y. get_or sums (get_or (take (q * g) places) y 0 + k) 0) p y (omega arith)
-      ∙ rw (get_or-take, fill_at 0 (λ y. sum_place q e y) f y l, same) (sum_kept bit_at e q g asked.rate asked.bits j y mine l s)
+      fill_at 0 (λ y. get_or sums (get_or places y 0 + k) 0) p y (omega arith)
+      ∙ rw (fill_at 0 (λ y. sum_place q e y) f y l, same) (sum_kept bit_at e q g asked.rate asked.bits j y mine l s)
 
   -- one encoder's bits are all
   pub one_coded : {d d₁ : List ℕ} → e ≡ 1 → Filled 0 0 (λ y. line_kept bit_at e q 0 y) (q * g) d d₁ → Coded bit_at e q (q * g) d d₁

@@ -13,11 +13,10 @@ pub record PlaceAsked (kept encoders y : ℕ) : Type 0 where
   pub at_most_two : encoders ≤ 2
   pub few : y < most_coded
 
-pub record PlacesAsked (places : List ℕ) (kept encoders count : ℕ) : Type 0 where
+pub record PlacesAsked (places : List ℕ) (kept encoders : ℕ) : Type 0 where
   pub rate : T (among kept_counts kept)
   pub at_most_two : encoders ≤ 2
-  pub few : count ≤ most_coded
-  pub room : count ≤ length places
+  pub few : length places ≤ most_coded
 
 pub record PickAsked (coded sums places : List ℕ) (j : ℕ) : Type 0 where
   pub room : length places ≤ length coded

@@ -18,26 +18,25 @@ fn sum_place<const KEPT: u16>(encoders: u16, y: u16) -> u16
     y % KEPT % 2 * 2160 + encoders * (y - (y + KEPT - 1) / KEPT)
 }
 
-fn sum_places<const KEPT: u16>(places: &mut [u16], encoders: u16, count: u16)
-    requires { PlacesAsked places.old KEPT encoders count }
-    ensures { Filled 0 0 (λ y. sum_place KEPT encoders y) count places.old places.new }
+fn sum_places<const KEPT: u16>(places: &mut [u16], encoders: u16)
+    requires { PlacesAsked places.old KEPT encoders }
+    ensures { Filled 0 0 (λ y. sum_place KEPT encoders y) (length places.old) places.old places.new }
 {
-    for y in 0..count {
-        places[y as usize] = sum_place::<KEPT>(encoders, y);
+    for y in 0..places.len() {
+        places[y] = sum_place::<KEPT>(encoders, y as u16);
     }
 }
 
-fn places_at(places: &mut [u16], kept: usize, encoders: usize, count: usize)
-    requires { PlacesAsked places.old kept encoders count }
-    ensures { Filled 0 0 (λ y. sum_place kept encoders y) count places.old places.new }
+fn places_at(places: &mut [u16], kept: usize, encoders: usize)
+    requires { PlacesAsked places.old kept encoders }
+    ensures { Filled 0 0 (λ y. sum_place kept encoders y) (length places.old) places.old places.new }
 {
     let encoders = encoders as u16;
-    let count = count as u16;
     match kept {
-        2 => sum_places::<2>(places, encoders, count),
-        3 => sum_places::<3>(places, encoders, count),
-        4 => sum_places::<4>(places, encoders, count),
-        _ => sum_places::<6>(places, encoders, count),
+        2 => sum_places::<2>(places, encoders),
+        3 => sum_places::<3>(places, encoders),
+        4 => sum_places::<4>(places, encoders),
+        _ => sum_places::<6>(places, encoders),
     }
 }
 
@@ -60,8 +59,8 @@ pub fn coded_bits(coded: &mut [u8], line: &[u8], encoders: usize, kept: usize, g
     let mut places = [0u16; MOST_CODED];
     let share = kept * groups;
     both_sums(&mut sums, line, encoders, encoders * ((kept - 1) * groups));
-    places_at(&mut places, kept, encoders, share);
-    let places = &places[..share];
+    let places = &mut places[..share];
+    places_at(places, kept, encoders);
     pick(&mut coded[..share], &sums, places, 0);
     if encoders == 2 {
         pick(&mut coded[1296..1296 + share], &sums, places, 1);

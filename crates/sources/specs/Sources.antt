@@ -45,13 +45,12 @@ pub record ParsedAsked (s streams encoders k : ℕ) : Type 0 where
   pub one_or_two : T (among encoder_counts encoders)
   pub inside : k < most_block
 
-pub record ParseAsked (table : List ℕ) (s streams encoders count : ℕ) : Type 0 where
+pub record ParseAsked (table : List ℕ) (s streams encoders : ℕ) : Type 0 where
   pub axis : T (among axis_counts s)
   pub few_streams : streams ≤ 4
   pub one_or_two : T (among encoder_counts encoders)
-  pub few : count ≤ most_block
-  pub room : count ≤ length table
-  pub inside : (r : ℕ) → r < count → get_or table r 0 < most_block
+  pub few : length table ≤ most_block
+  pub inside : (r : ℕ) → r < length table → get_or table r 0 < most_block
 
 pub record TableAsked (table : List ℕ) (p : Plan) : Type 0 where
   pub fits : Fits p

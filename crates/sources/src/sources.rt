@@ -53,11 +53,11 @@ fn parsed<const S: u16, const ENCODERS: u16>(streams: u16, k: u16) -> u16
 }
 
 // A table of stream bits made one of coded bits.
-fn parse<const S: u16, const ENCODERS: u16>(table: &mut [u16], streams: u16, count: usize)
-    requires { ParseAsked table.old S streams ENCODERS count }
-    ensures { Filled 0 0 (λ r. coded_slot S streams ENCODERS 0 (get_or table.old r 0)) count table.old table.new }
+fn parse<const S: u16, const ENCODERS: u16>(table: &mut [u16], streams: u16)
+    requires { ParseAsked table.old S streams ENCODERS }
+    ensures { Filled 0 0 (λ r. coded_slot S streams ENCODERS 0 (get_or table.old r 0)) (length table.old) table.old table.new }
 {
-    for entry in &mut table[..count] {
+    for entry in table {
         *entry = parsed::<S, ENCODERS>(streams, *entry);
     }
 }
@@ -68,12 +68,13 @@ pub fn label_sources(table: &mut [u16], plan: Plan)
 {
     sources_at(table, plan.width, plan.bits);
     let streams = plan.streams as u16;
+    let table = &mut table[..plan.block];
     match (axis_bits(plan.bits), plan.encoders) {
-        (1, 1) => parse::<1, 1>(table, streams, plan.block),
-        (2, 1) => parse::<2, 1>(table, streams, plan.block),
-        (_, 1) => parse::<3, 1>(table, streams, plan.block),
-        (1, _) => parse::<1, 2>(table, streams, plan.block),
-        (2, _) => parse::<2, 2>(table, streams, plan.block),
-        _ => parse::<3, 2>(table, streams, plan.block),
+        (1, 1) => parse::<1, 1>(table, streams),
+        (2, 1) => parse::<2, 1>(table, streams),
+        (_, 1) => parse::<3, 1>(table, streams),
+        (1, _) => parse::<1, 2>(table, streams),
+        (2, _) => parse::<2, 2>(table, streams),
+        _ => parse::<3, 2>(table, streams),
     }
 }

@@ -1,8 +1,9 @@
 -- `label_sources`: the interleaver's table, parsed in place, is the table of label sources.
-use Rattle.std.proofs.Common.{◌≡◌, ◌∙◌, sym, subst, ℕ, ◌<◌, List, get_or, T, arith}
+use Rattle.std.proofs.Common.{◌≡◌, ◌∙◌, sym, ap, subst, ℕ, ◌<◌, ◌≤◌, T, arith}
+use Rattle.std.proofs.Common.{◌++◌, List, length, take, drop, length-take, get_or, get_or-take}
 use Rattle.laws.specs.Test.{among}
 use Rattle.laws.specs.Filled.{Filled}
-use Rattle.laws.proofs.Filling.{fill_at}
+use Rattle.laws.proofs.Filling.{fill_at, fill_as, fill_lent_all}
 use Rattle.chain.specs.Plan.{axis_counts, encoder_counts}
 use Rattle.chain.specs.Interleaver.{source}
 use Rattle.chain.proofs.InterleaverLaws.{plan_block}
@@ -31,9 +32,13 @@ module _ (c : After-axis_bits) where
   two : (c.args.plan.encoders ≡ 1 → ⊥) → c.args.plan.encoders ≡ 2
   two = encoders_not_one _ c.requires.fits.encoders
 
+  -- the part of the table that is parsed is a block
+  lent : length (take c.args.plan.block c.sources_at.new.table) ≡ c.args.plan.block
+  lent = simp length-take (omega (arith, c.sources_at.ensures.same, c.requires.room))
+
   -- what the parser is given, of any axis and number of encoders
   asked : (s e : ℕ) → T (among axis_counts s) → T (among encoder_counts e)
-      → ParseAsked c.sources_at.new.table s c.args.plan.streams e c.args.plan.block
+      → ParseAsked (take c.args.plan.block c.sources_at.new.table) s c.args.plan.streams e
   asked s e hs he =
       let p = c.args.plan in
       let f = c.requires.fits in
@@ -42,19 +47,25 @@ module _ (c : After-axis_bits) where
         axis = hs;
         few_streams = (small p f).streams;
         one_or_two = he;
-        few = (small p f).block;
-        room = omega (arith, t.same, c.requires.room);
+        few = omega (arith, lent, (small p f).block);
         inside = λ r h.
+            let few : r < p.block = omega (arith, lent) in
             let at = fill_at 0 (λ k. source p.width p.bits 0 k) t r (omega (arith, plan_block p f)) in
-            subst (λ (k : ℕ). k < 648) (sym at) (source_small p f r h);
+            rw (get_or-take p.block c.sources_at.new.table r 0 few, at) (source_small p f r few);
       }
 
   -- what it leaves
   tabled : {s e : ℕ} {d : List ℕ} → c.axis_bits.result ≡ s → c.args.plan.encoders ≡ e
-      → Filled 0 0 (λ r. coded_slot s c.args.plan.streams e 0 (get_or c.sources_at.new.table r 0)) c.args.plan.block
-      c.sources_at.new.table d
-      → Filled 0 0 (λ r. label_source c.args.plan r) c.args.plan.block c.args.table.now d
-  tabled bits encoders = parsed_table c.args.plan c.requires.fits (sym c.axis_bits.ensures ∙ bits) encoders c.sources_at.ensures
+      → (let block = take c.args.plan.block c.sources_at.new.table in
+      Filled 0 0 (λ r. coded_slot s c.args.plan.streams e 0 (get_or block r 0)) (length block) block d)
+      → Filled 0 0 (λ r. label_source c.args.plan r) c.args.plan.block c.args.table.now (d ++ drop c.args.plan.block c.sources_at.new.table)
+  tabled {s} {e} bits encoders parsed =
+      let t = c.sources_at.new.table in
+      let room : c.args.plan.block ≤ length t = omega (arith, c.sources_at.ensures.same, c.requires.room) in
+      let whole = fill_lent_all 0 0 _ _ c.args.plan.block t (omega arith) (omega arith) parsed in
+      parsed_table c.args.plan c.requires.fits (sym c.axis_bits.ensures ∙ bits) encoders c.sources_at.ensures
+      (fill_as 0 0 _ (λ r. coded_slot s c.args.plan.streams e 0 (get_or t r 0)) _ _ _
+      (λ r h. ap (coded_slot s c.args.plan.streams e 0) (get_or-take c.args.plan.block t r 0 h)) whole)
 
 pub parse-requires : goal.parse-requires
 parse-requires c = asked (goal.at.parse-requires c).After-axis_bits _ _ tt tt
