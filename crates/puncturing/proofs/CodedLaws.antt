@@ -1,7 +1,7 @@
 -- Where the kept bits' sums stand, that each kept bit is the sum at its place, and that the bits picked from there are the coded bits.
 -- Assumes nothing.
-use Rattle.std.proofs.Common.{◌≡◌, ◌∙◌, refl, sym, ap, ℕ, ◌+◌, ◌-◌, ◌*◌, ◌/◌, ◌%◌, ◌<◌, ◌≤◌, arith, ⊎_elim}
-use Rattle.std.proofs.Common.{List, mul-le-mul, mul-le-mul_right, ◌++◌, length, take, drop, get_or-take, eq-eqb, ne_eqb, T, get_or}
+use Rattle.std.proofs.Common.{◌≡◌, ◌∙◌, refl, sym, ap, ℕ, ◌+◌, ◌-◌, ◌*◌, ◌%◌, ◌<◌, ◌≤◌, arith, ⊎_elim}
+use Rattle.std.proofs.Common.{List, mul-le-mul_right, ◌++◌, length, drop, eq-eqb, ne_eqb, T, get_or}
 use native.Mathlib.Decide.{ℕ_discrete}
 use borrow.Rule.Slice.PartMut.{put_mid}
 use Rattle.std.proofs.lemmas.Grind.{common_steps}
