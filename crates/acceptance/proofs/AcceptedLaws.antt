@@ -217,10 +217,12 @@ module _ (s : Settings) (st : Reader) (inputs : List ℕ) (held : InputsHeld s s
         known = held.in_range.scrambler_most;
       }
 
+  -- its bits are few
   pub few_bits : (p : Plan) → p ≡ plan_for s → p.dbps ≤ 2160
   few_bits p plan = rw plan (plan_fits s held.right).dbps_most
 
-  pub plain_asked : (p : Plan) → p ≡ plan_for s → (plain : List ℕ) (k : ℕ) → 2160 ≤ length plain → k < 128 → PlainAsked (take p.dbps plain) inputs k
+  pub plain_asked : (p : Plan) → p ≡ plan_for s → (plain : List ℕ) (k : ℕ) → 2160 ≤ length plain → k < 128
+      → PlainAsked (take p.dbps plain) inputs k
   plain_asked p plan plain k room small =
       let most = (plan_fits s held.right).dbps_most in
       let sized : length (take (plan_for s).dbps plain) ≡ (plan_for s).dbps = simp length-take (omega (arith, most, room)) in

@@ -17,8 +17,8 @@ slice_bounds-plain-end c = few_bits c.args.s c.args.reader c.args.inputs.now c.r
 
 pub slice_bounds-descramble-end : goal.slice_bounds-descramble-end
 slice_bounds-descramble-end c =
-    let few = few_bits c.args.s c.args.reader c.args.inputs.now c.requires.held _ c.plan_of-plan.ensures in
-    omega (arith, length-take c.plan_of-plan.result.dbps (replicate {A = ℕ} 2160 0))
+    let all = length-take c.plan_of-plan.result.dbps (replicate {A = ℕ} 2160 0) in
+    omega (arith, all, few_bits c.args.s c.args.reader c.args.inputs.now c.requires.held _ c.plan_of-plan.ensures)
 
 pub descramble-requires : goal.descramble-requires
 descramble-requires c = plain_asked c.args.s c.args.reader c.args.inputs.now c.requires.held c.plan_of-plan.result c.plan_of-plan.ensures
