@@ -22,7 +22,10 @@ overflow_sub-result c = omega (arith, (plan_right (goal.at.overflow_sub-result c
 
 pub overflow_add-result : goal.overflow_add-result
 overflow_add-result c = omega (
-  arith, (plan_right (goal.at.overflow_add-result c).After-plan_of-plan).dbps_most, c.tail_bits.ensures.1, c.requires.length_most,
+  arith,
+  (plan_right (goal.at.overflow_add-result c).After-plan_of-plan).dbps_most,
+  c.tail_bits.ensures.1,
+  c.requires.length_most,
 )
 
 pub nonzero_div-result : goal.nonzero_div-result
