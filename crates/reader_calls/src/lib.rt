@@ -11,7 +11,7 @@ use reader_numbers::{place_number, reader_of, state_number, stepped_number};
 use reader_place::place;
 use reader_state::state;
 use reader_state::state::OpenSettings;
-use settings::settings::Refusal;
+use settings::settings::{Refusal, number};
 
 // The reader's state before symbol 0.
 pub fn start_call(settings: OpenSettings) -> i64
@@ -38,7 +38,7 @@ pub fn step_call(settings: OpenSettings, state: u64, points: &[f32], payload: &m
 {
     let no_state = state >= 562949953421312;
     if no_state {
-        return (12 + 4096 * closed_number(state)) as i64;
+        return (number(Refusal::Closed) + 4096 * closed_number(state)) as i64;
     }
     let stepped = step::step(reader_of(settings, state), points, payload);
     stepped_number(stepped) as i64

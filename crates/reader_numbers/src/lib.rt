@@ -68,7 +68,7 @@ fn answer_number(answer: Result<Option<u8>, StepRefusal>) -> u64
 {
     match answer {
         Ok(_) => 0,
-        Err(StepRefusal::BadPoint(_, _)) => 9,
+        Err(StepRefusal::BadPoint(_, _)) => number(Refusal::Point),
         Err(StepRefusal::Refused(r)) => number(r),
     }
 }

@@ -7,8 +7,8 @@ use Rattle.reader_calls.proofs.step_call.Goals as goal
 pub returns-then-no_state : goal.returns-then-no_state
 returns-then-no_state c = let w = step_none c.args.settings c.args.state c.args.points.now c.args.payload.now c.if-no_state.true-raw in
     record {
-      value = to_z_pos w64 {n = 12 + 4096 * c.closed_number.result} (omega (arith, c.closed_number.ensures.1))
-          ∙ ap (λ (k : ℕ). pos (12 + 4096 * k)) c.closed_number.ensures.0 ∙ ap pos w.0;
+      value = rw c.number.ensures (to_z_pos w64 {n = 12 + 4096 * c.closed_number.result} (omega (arith, c.closed_number.ensures.1))
+          ∙ ap (λ (k : ℕ). pos (12 + 4096 * k)) c.closed_number.ensures.0 ∙ ap pos w.0);
       payload_after = w.1;
     }
 
