@@ -40,7 +40,8 @@ pub const MOST_LINE: usize = 2172;
 pub const MOST_HALVES: usize = 864;
 
 // By the MCS modulo 8: coded bits per data carrier, and the rate as encoder steps and coded bits kept of them.
-const SCHEMES: [(usize, usize, usize); 8] = [
+// A static, of which a read takes one row: the array of a const would be built for each.
+static SCHEMES: [(usize, usize, usize); 8] = [
     (1, 1, 2),
     (2, 1, 2),
     (2, 3, 4),

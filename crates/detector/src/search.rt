@@ -21,22 +21,22 @@ fn is_turned(width: usize, f: usize) -> bool
 
 // What the points of a symbol are heard with: its plan, number and polarity, and the tables of levels, labels and uses.
 #[derive(Clone, Copy)]
-struct Hearing {
+struct Hearing<'a> {
     plan: Plan,
     s: usize,
     polarity: u8,
     n: usize,
-    levels: [u32; 32],
-    labels: [u8; 32],
-    uses: [u8; 114],
+    levels: &'a [u32],
+    labels: &'a [u8],
+    uses: &'a [u8],
     ghost fits: { Fits plan },
-    ghost tables: { PointTables plan.bits s levels labels },
-    ghost numbered: { PlacesNumbered plan.width uses },
+    ghost tables: { PointTables plan.bits s levels.now labels.now },
+    ghost numbered: { PlacesNumbered plan.width uses.now },
     ghost near: { n ≤ 32768 },
     ghost polar: { polarity < 2 },
 }
 
-impl Hearing {
+impl Hearing<'_> {
     // Stream i's point at place f: whether it is one the rules give, and a data carrier's label bits.
     fn hear_place(&self, bits: &mut [u8], points: &[f32], i: usize, f: usize) -> bool
         requires { HearPlaceAsked bits.old points.now self.now.plan i f }
@@ -55,8 +55,8 @@ impl Hearing {
             return hear_data(
                 bits,
                 to,
-                &self.levels,
-                &self.labels,
+                self.levels,
+                self.labels,
                 plan.bits,
                 self.s,
                 turned,
@@ -90,14 +90,17 @@ pub fn symbol_bits(
     ensures bits_shown { BitsShown plan points.now result bits.old bits.new }
 {
     let s = axis_bits(plan.bits);
+    let levels = level_keys();
+    let labels = label_keys(s);
+    let uses = uses_of(plan.width);
     let hearing = Hearing {
         plan,
         s,
         polarity: polarity_bit(format, n),
         n,
-        levels: level_keys(),
-        labels: label_keys(s),
-        uses: uses_of(plan.width),
+        levels: &levels,
+        labels: &labels,
+        uses: &uses,
     };
     let places = places_of(plan.width);
     let mut found = None;

@@ -16,11 +16,11 @@ invariant_of-hearing c =
         axis_is = s.ensures;
         tables = record {
           axis = subst (λ (k : ℕ). T (among axis_counts k)) (sym s.ensures) (axis_known c.args.plan.bits c.requires.fits.bits);
-          levels_are = c.level_keys.ensures;
-          labels_are = c.label_keys.ensures;
+          levels_are = c.level_keys-levels.ensures;
+          labels_are = c.label_keys-labels.ensures;
         };
       };
-      numbered = c.uses_of.ensures;
+      numbered = c.uses_of-uses.ensures;
       near = c.requires.near;
       polar = c.polarity_bit.ensures.1;
     }
