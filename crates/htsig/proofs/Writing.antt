@@ -1,10 +1,16 @@
 -- A text that is written piece by piece. Assumes nothing.
-use Rattle.std.proofs.Common.{◌≡◌, ℕ, List, ◌++◌, Bool, cond, Option, length, ltb, sym, ap, ◌∙◌, subst, append_assoc}
+use Rattle.std.proofs.Common.{◌≡◌, ℕ, ◌-◌, List, ◌++◌, Bool, cond, Option, length, take, replicate, ltb, sym, ap, ◌∙◌, subst, append_assoc}
+use lib.Seq.{take-append_seam}
 use Rattle.std.specs.Io.KnownBytes.{Appends}
 use Rattle.std.proofs.KnownBytes.{Appends-trans}
-use Rattle.text.specs.Printing.{header_text, too_long_text}
+use Rattle.text.specs.declared.printing.Row.{Row}
+use Rattle.text.specs.Printing.{row_holding, header_text, too_long_text}
 use Rattle.lines.specs.Lines.{lines_of}
 use Rattle.listing.specs.Listing.{listing_of, rows_of}
+
+-- the bytes that a row holds
+pub row_bytes : (r : Row) (text : List ℕ) → r ≡ row_holding text → take r.len r.bytes ≡ text
+row_bytes r text e = ap (λ (x : Row). take x.len x.bytes) e ∙ take-append_seam text (replicate (40 - length text) 0)
 
 -- one piece more of a whole
 pub written_more : (a b c : Option (List ℕ)) (whole done piece rest : List ℕ) → whole ≡ done ++ (piece ++ rest) → Appends a b done → Appends b c piece

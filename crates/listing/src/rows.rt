@@ -1,6 +1,7 @@
 // The row of a line.
-ghost use Rattle.std.specs.Prelude.{◌≡◌, ◌<◌, ◌≤◌, ◌++◌, Some, length};
+ghost use Rattle.std.specs.Prelude.{◌≡◌, ◌<◌, ◌≤◌, Some, length};
 ghost use Rattle.parsing.specs.Parsing.{FiveDigits};
+ghost use Rattle.text.specs.Printing.{empty_row, pushed_all, row_holding};
 ghost use Rattle.listing.specs.Rows.{zeros, raw_for, inputs_text, refused_text, accepted_text, row_for, row_of};
 ghost use Rattle.signal.specs.HtSig.{written_into};
 ghost use Rattle.settings.specs.Settings.{check_of};
@@ -31,7 +32,7 @@ fn raw_for(given: Numbers) -> RawSettings
 // The three inputs without leading zeros, each with a space after it.
 fn inputs_row(given: Numbers) -> Row
     requires { FiveDigits (Some given) }
-    ensures { (result ≡ inputs_text given.mcs given.width given.length) × (length result ≤ 18) }
+    ensures { (result ≡ pushed_all empty_row (inputs_text given.mcs given.width given.length)) × (result.len ≤ 18) }
 {
     let Numbers { mcs, width, length } = given;
     let mut row = Row::new();
@@ -45,8 +46,8 @@ fn inputs_row(given: Numbers) -> Row
 }
 
 fn refused_row(inputs: Row, r: Refusal) -> Row
-    requires { length inputs ≤ 18 }
-    ensures { result ≡ inputs ++ refused_text r }
+    requires { inputs.len ≤ 18 }
+    ensures { result ≡ pushed_all inputs (refused_text r) }
 {
     let mut row = inputs;
     row.push_text(b"refused ");
@@ -56,8 +57,8 @@ fn refused_row(inputs: Row, r: Refusal) -> Row
 }
 
 fn accepted_row(inputs: Row, symbols: u64, sig: &[u8]) -> Row
-    requires { (length inputs ≤ 18) × ((symbols < 100000) × (length sig.now ≡ 6)) }
-    ensures { result ≡ inputs ++ accepted_text symbols sig.now }
+    requires { (inputs.len ≤ 18) × ((symbols < 100000) × (length sig.now ≡ 6)) }
+    ensures { result ≡ pushed_all inputs (accepted_text symbols sig.now) }
 {
     let mut row = inputs;
     row.push_decimal(symbols);
@@ -79,7 +80,7 @@ fn sig_bytes(raw: RawSettings) -> [u8; 6]
 
 fn answered_row(given: Numbers) -> Row
     requires { FiveDigits (Some given) }
-    ensures { result ≡ row_for given.mcs given.width given.length }
+    ensures { result ≡ pushed_all empty_row (row_for given.mcs given.width given.length) }
 {
     let inputs = inputs_row(given);
     let raw = raw_for(given);
@@ -94,7 +95,7 @@ fn answered_row(given: Numbers) -> Row
 
 // The public row: what is printed for a line, its line feed included.
 pub fn row(line: &[u8]) -> Row
-    ensures { result ≡ row_of line.now }
+    ensures { result ≡ row_holding (row_of line.now) }
 {
     let Some(given) = parse(line) else {
         let mut row = Row::new();

@@ -1,5 +1,6 @@
 -- Text in a row of 40 bytes, numbers in decimal and hexadecimal.
-use Rattle.std.specs.Prelude.{Bool, cond, List, [], ◌∷◌, ◌++◌, ℕ, zero, suc, ◌+◌, ◌-◌, ◌/◌, ◌%◌, ltb, length, replicate}
+use Rattle.std.specs.Prelude.{Bool, cond, List, [], ◌∷◌, ◌++◌, ℕ, zero, suc, ◌+◌, ◌-◌, ◌/◌, ◌%◌, ltb, length, set, replicate}
+use Rattle.text.specs.declared.printing.Row.{Row}
 
 -- "mcs width length symbols htsig"
 abbrev pub header_text : List ℕ
@@ -10,9 +11,20 @@ header_text =
 abbrev pub too_long_text : List ℕ
 too_long_text = 116 ∷ 111 ∷ 111 ∷ 32 ∷ 108 ∷ 111 ∷ 110 ∷ 103 ∷ 10 ∷ []
 
--- the bytes of a row that holds a text: the text, and zeros after it
-abbrev pub row_holding : List ℕ → List ℕ
-row_holding text = text ++ replicate (40 - length text) 0
+-- a row that holds a text: the text, and zeros after it
+abbrev pub row_holding : List ℕ → Row
+row_holding text = record { bytes = text ++ replicate (40 - length text) 0; len = length text }
+
+abbrev pub empty_row : Row
+empty_row = row_holding []
+
+-- one byte more, and all of a text
+abbrev pub pushed : Row → ℕ → Row
+pushed r b = record { bytes = set r.bytes r.len b; len = r.len + 1 }
+
+abbrev pub pushed_all : Row → List ℕ → Row
+pushed_all r [] = r
+pushed_all r (b ∷ bs) = pushed_all (pushed r b) bs
 
 -- "without leading zeros": the digits of a number of at most k digits
 abbrev pub digits_of : ℕ → ℕ → List ℕ
