@@ -28,10 +28,10 @@ module _ (f k bits : ℕ) (hf : f < 114) (hk : k < 64) (told : to_z w32 bits ≡
   same : to_z w32 f -ℤ to_z w32 bits ≡ pos f -ℤ pos k
   same = ap₂ (λ (x y : ℤ). x -ℤ y) (to_z_pos w32 {n = f} (omega arith)) told
 
-  difference_fits : SFits w32 (to_z w32 f -ℤ to_z w32 bits)
+  pub difference_fits : SFits w32 (to_z w32 f -ℤ to_z w32 bits)
   difference_fits = subst (SFits w32) (sym same) (small_fits (pos f -ℤ pos k) (smalls f hf k hk))
 
-  difference_is : to_z w32 (of_z w32 (to_z w32 f -ℤ to_z w32 bits)) ≡ pos f -ℤ pos k
+  pub difference_is : to_z w32 (of_z w32 (to_z w32 f -ℤ to_z w32 bits)) ≡ pos f -ℤ pos k
   difference_is = to_z-of_z difference_fits ∙ same
 
 -- where a width's places above 0 begin, and how far the places below 0 and those above are ahead of their own numbers
