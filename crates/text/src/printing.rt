@@ -52,7 +52,7 @@ impl Row {
 
     pub fn push_text(&mut self, text: &[u8])
         requires { self.old.len + length text.now ≤ 40 }
-        ensures { self.new ≡ pushed_all self.old text.now }
+        ensures { (self.new ≡ pushed_all self.old text.now) × (self.new.len ≡ self.old.len + length text.now) }
     {
         for &b in text {
             self.push(b);
