@@ -1,9 +1,10 @@
--- Text pushed into a row. Assumes nothing.
+-- Text pushed into a row, and hexadecimal digits byte by byte. Assumes nothing.
 use Rattle.std.proofs.Common.{◌≡◌, refl, sym, ap, ◌∙◌, List, [], ◌∷◌, ◌++◌, append-nil, append_assoc, ℕ, suc, ◌+◌, ◌-◌}
-use Rattle.std.proofs.Common.{◌/◌, ◌%◌, ◌<◌, ◌≤◌, leb, length, set, replicate, length-append, arith}
+use Rattle.std.proofs.Common.{◌/◌, ◌%◌, ◌<◌, ◌≤◌, leb, length, get_or, set, take, replicate, length-append, arith}
+use Rattle.std.proofs.lemmas.List.{take_more}
 use lib.Seq.{set-append_seam, append_snoc}
 use Rattle.text.specs.declared.printing.Row.{Row}
-use Rattle.text.specs.Printing.{digit_if, decimal, row_holding, empty_row, pushed, pushed_all}
+use Rattle.text.specs.Printing.{digit_if, decimal, hex_digit, hex_bytes, row_holding, empty_row, pushed, pushed_all}
 use Rattle.text.proofs.Decimals.{decimal_by_digit}
 
 -- two texts are pushed one after the other
@@ -41,3 +42,12 @@ pub decimal_pushed : (row a b c d r : Row) (n : ℕ) → n < 100000
     → r ≡ pushed d (48 + n % 10) → r ≡ pushed_all row (decimal n)
 decimal_pushed row a b c d r n h ea eb ec ed er =
     rw (decimal_by_digit n h, pushed_all_append, ← ea, pushed_all_append, ← eb, pushed_all_append, ← ec, pushed_all_append, ← ed) er
+
+hex_append : (xs ys : List ℕ) → hex_bytes (xs ++ ys) ≡ hex_bytes xs ++ hex_bytes ys
+hex_append [] ys = refl
+hex_append (x ∷ xs) ys = ap (λ l. hex_digit (x / 16) ∷ hex_digit (x % 16) ∷ l) (hex_append xs ys)
+
+-- the digits of one byte more
+pub hex_more : (l : List ℕ) (i : ℕ) → i < length l
+    → hex_bytes (take (i + 1) l) ≡ hex_bytes (take i l) ++ (hex_digit (get_or l i 0 / 16) ∷ hex_digit (get_or l i 0 % 16) ∷ [])
+hex_more l i h = rw (take_more l i 0 h) (hex_append (take i l) (get_or l i 0 ∷ []))

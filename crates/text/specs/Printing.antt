@@ -1,5 +1,5 @@
 -- Text in a row of 40 bytes, numbers in decimal and hexadecimal.
-use Rattle.std.specs.Prelude.{Bool, cond, List, [], ◌∷◌, ◌++◌, ℕ, zero, suc, ◌+◌, ◌-◌, ◌/◌, ◌%◌, ltb, length, set, replicate}
+use Rattle.std.specs.Prelude.{Bool, cond, List, [], ◌∷◌, ◌++◌, ℕ, zero, suc, ◌+◌, ◌-◌, ◌/◌, ◌%◌, ◌≡◌, ◌≤◌, ltb, length, set, take, replicate}
 use Rattle.text.specs.declared.printing.Row.{Row}
 
 -- "mcs width length symbols htsig"
@@ -17,6 +17,14 @@ row_holding text = record { bytes = text ++ replicate (40 - length text) 0; len 
 
 abbrev pub empty_row : Row
 empty_row = row_holding []
+
+-- the text of a row: its first `len` bytes
+abbrev pub text_of : Row → List ℕ
+text_of r = take r.len r.bytes
+
+-- what stands behind the text of a row is zeros
+abbrev pub ZerosBehind : Row → Type 0
+ZerosBehind r = (r.len ≤ 40) × (r.bytes ≡ (row_holding (text_of r)).bytes)
 
 -- one byte more, and all of a text
 abbrev pub pushed : Row → ℕ → Row

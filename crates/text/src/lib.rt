@@ -2,3 +2,5 @@
 #![tactic(auto)]
 
 pub mod printing;
+#[cfg(test)]
+mod tests;
