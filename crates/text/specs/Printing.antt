@@ -1,5 +1,6 @@
 -- Text in a row of 40 bytes, numbers in decimal and hexadecimal.
-use Rattle.std.specs.Prelude.{Bool, cond, List, [], ◌∷◌, ◌++◌, ℕ, zero, suc, ◌+◌, ◌-◌, ◌/◌, ◌%◌, ◌≡◌, ◌≤◌, ltb, length, set, take, replicate}
+use Rattle.std.specs.Prelude.{◌≡◌, Bool, cond, List, [], ◌∷◌, ◌++◌, length, set, take, replicate}
+use Rattle.std.specs.Prelude.{ℕ, zero, suc, ◌+◌, ◌-◌, ◌/◌, ◌%◌, ◌≤◌, ltb}
 use Rattle.text.specs.declared.printing.Row.{Row}
 
 -- "mcs width length symbols htsig"
